@@ -10,8 +10,8 @@ use Rattle.toml.specs.declared.value.Value.{Value}
 use Rattle.exp_file.specs.declared.exp_why.ExpWhy.{ExpWhy}
 use Rattle.exp_file.specs.declared.exp_why.ExpWhy.TheVariants.{Range, NotToml}
 use Rattle.exp_file.specs.declared.section.Section.TheVariants.{Top}
-use Rattle.exp_file.specs.Rows.{items_len, sized}
-use Rattle.exp_file.specs.Reading.{document, of_document, reading}
+use Rattle.exp_file.specs.Rows.{Place, fault_at, items_len, sized, some_of}
+use Rattle.exp_file.specs.Reading.{document, of_document, said}
 
 some_if : (t : Bool) (o p : Option Members) → t ≡ true → o ≡ p → (if t then o else None) ≡ p
 some_if true o p e h = h
@@ -31,20 +31,26 @@ items_len-view : (vs : List Value) → items_len (items_view vs) ≡ length vs
 items_len-view [] = refl
 items_len-view (v ∷ vs) = ap suc (items_len-view vs)
 
-pub sized_ok : (vs : List Value) (most : ℕ) (none : ExpWhy) → 0 < length vs → length vs ≤ most → sized most none (Some (items_view vs)) ≡ Ok (items_view vs)
-sized_ok [] most none some fits = absurd (omega arith)
-sized_ok (v ∷ vs) most none some fits = rw (items_len-view vs, le-leb (suc (length vs)) most fits) refl
+pub sized_ok : (vs : List Value) (most : ℕ) → length vs ≤ most → sized most (Some (items_view vs)) ≡ Ok (items_view vs)
+sized_ok vs most fits = rw (items_len-view vs, le-leb (length vs) most fits) refl
 
-pub sized_range : (vs : List Value) (most : ℕ) (none : ExpWhy) → 0 < length vs → most < length vs → sized most none (Some (items_view vs)) ≡ Err Range
-sized_range [] most none some fits = absurd (omega arith)
-sized_range (v ∷ vs) most none some fits =
-    let no : nat_le (suc (length vs)) most ≡ false = grind (arith, nat_tests) in
+pub sized_range : (vs : List Value) (most : ℕ) → most < length vs → sized most (Some (items_view vs)) ≡ Err Range
+sized_range vs most long =
+    let no : nat_le (length vs) most ≡ false = grind (arith, nat_tests) in
     rw (items_len-view vs, no) refl
+
+pub some_of-some : (p : Place) (key : List ℕ) (none : ExpWhy) (vs : List Value) → (length vs == 0) ≡ false → some_of p key none (items_view vs) ≡ Ok (items_view vs)
+some_of-some p key none [] h = absurd (cc)
+some_of-some p key none (v ∷ vs) h = refl
+
+pub some_of-none : (p : Place) (key : List ℕ) (none : ExpWhy) (vs : List Value) → (length vs == 0) ≡ true → some_of p key none (items_view vs) ≡ Err (fault_at p key none)
+some_of-none p key none [] h = refl
+some_of-none p key none (v ∷ vs) h = absurd (grind (arith, nat_tests))
 
 pub positive : (n : ℕ) → (n == 0) ≡ false → 0 < n
 positive zero e = absurd (cc)
 positive (suc n) e = omega arith
 
-pub refused : (b k : List ℕ) → (IsUtf8 b → parse_document b ≡ None) → k ≡ [] → reading b ≡ Err (record { why = NotToml; section = Top; index = 0; key = k })
-unfolding reading
-refused b k h e = ap of_document (document_none b h) ∙ ap (λ (x : List ℕ). Err (record { why = NotToml; section = Top; index = 0; key = x })) (sym e)
+pub refused : (b : List ℕ) → (IsUtf8 b → parse_document b ≡ None) → said b ≡ Err (record { why = NotToml; section = Top; index = 0; key = [] })
+unfolding said
+refused b h = ap of_document (document_none b h)

@@ -9,7 +9,7 @@ use Rattle.exp_file.specs.declared.exp_fault.ExpErr.{ExpErr}
 use Rattle.exp_file.specs.declared.exp_fault.ExpErr.TheVariants as errors
 use Rattle.exp_file.specs.declared.exp_fault.ExpFault.{ExpFault}
 use Rattle.exp_file.specs.Rows.{Fails, ◌>>=◌}
-use Rattle.exp_file.specs.Reading.{each}
+use Rattle.exp_file.specs.Tables.{each}
 
 each_step : {A : Type 0} (step : List A → Data → Result A ExpFault) (done : List A) (values : List Value) (i : ℕ) (v : Value) → i < length values → v ≡ get_or values i v
     → each step done (items_view (drop i values)) ≡ (step done (view v) >>= λ x. each step (done ++ x ∷ []) (items_view (drop (i + 1) values)))
@@ -21,6 +21,12 @@ each_step step done values i v h same =
 pub record IsAlong {A : Type 0} (step : List A → Data → Result A ExpFault) (done : List A) (values : List Value) (i : ℕ) : Type 0 where
   pub count : length done ≡ i
   pub same : each step done (items_view (drop i values)) ≡ each step [] (items_view values)
+
+pub starts : {A : Type 0} (step : List A → Data → Result A ExpFault) (done : List A) (values : List Value) → done ≡ [] → IsAlong step done values 0
+starts step done values e = record {
+  count = ap length e;
+  same = ap (λ z. each step z (items_view values)) e;
+}
 
 pub goes_on : {A : Type 0} (step : List A → Data → Result A ExpFault) (done next : List A) (values : List Value) (i : ℕ) (v : Value) (x : A) → i < length values → v ≡ get_or values i v
     → IsAlong step done values i → step done (view v) ≡ Ok x → next ≡ done ++ x ∷ [] → IsAlong step next values (i + 1)

@@ -1,5 +1,5 @@
 -- The links of an experiment file.
-use Rattle.std.specs.Prelude.{◌==◌, ℕ, ◌&&◌, ◌||◌, ◌+◌, zero, suc, nat_lt, List, [], ◌∷◌, length, Option, Some, None, Result, Ok, Err, Bool, false, codes, if◌then◌else◌}
+use Rattle.std.specs.Prelude.{◌==◌, ℕ, ◌&&◌, ◌||◌, ◌+◌, slice_get, nat_lt, List, [], ◌∷◌, length, Option, Some, None, Result, Ok, Err, Bool, false, codes, if◌then◌else◌}
 use Rattle.std.specs.List.{list_any, count_by}
 use Rattle.toml.specs.Data.{Data}
 use Rattle.exp_file.specs.declared.exp_fault.ExpFault.{ExpFault}
@@ -13,10 +13,12 @@ use Rattle.exp_file.specs.Tables.{row}
 use Rattle.exp_file.specs.Disks.{guest_at, found}
 
 -- how many nics the guest of a number has
+abbrev pub nics_if : Option GuestSpec → ℕ
+nics_if None = 0
+nics_if (Some x) = x.nics
+
 abbrev pub nics_of : List GuestSpec → ℕ → ℕ
-nics_of [] g = 0
-nics_of (x ∷ xs) zero = x.nics
-nics_of (x ∷ xs) (suc g) = nics_of xs g
+nics_of guests g = nics_if (slice_get guests g)
 
 -- whether an end of a link is at a nic of a guest
 abbrev pub has_end : ℕ → ℕ → LinkSpec → Bool

@@ -45,6 +45,10 @@ abbrev pub of_document : Option Members → Result Experiment ExpFault
 of_document None = Err (record { why = NotToml; section = Top; index = 0; key = [] })
 of_document (Some ms) = top_of (record { section = Top; index = 0; members = ms })
 
+-- the experiment that the bytes say, whether or not it can be run
+unfoldable pub said : List ℕ → Result Experiment ExpFault
+said b = of_document (document b)
+
 -- the experiment that a file says, with no room in its lists, or why the file is refused
 unfoldable pub reading : List ℕ → Result Experiment ExpFault
-reading b = of_document (document b) >>= built
+reading b = said b >>= built

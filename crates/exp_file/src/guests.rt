@@ -1,5 +1,5 @@
 //! The guests.
-ghost use Rattle.std.specs.Prelude.{◌≡◌, [], ◌≤◌, ◌<◌, ◌^◌, length, IfOk, All, map};
+ghost use Rattle.std.specs.Prelude.{◌≡◌, [], ◌≤◌, ◌<◌, ◌^◌, length, IfOk, All, map, false};
 ghost use Rattle.exp_file.specs.WellFormed.{IsGuest};
 ghost use Rattle.std.specs.List.{IsDistinct};
 ghost use Rattle.std.specs.Str.{bytes_eq};
@@ -56,6 +56,7 @@ fn is_named(name: &str, done: &[GuestSpec]) -> bool
 fn once(done: &[GuestSpec], row: &Row<'_>, guest: GuestSpec) -> Result<GuestSpec, ExpErr>
     ensures given { Gives result (once done.now (place row.now.section row.now.index row.now.table.now) guest) }
     ensures same { IfOk result (λ g. g ≡ guest) }
+    ensures new { IfOk result (λ g. is_named g.name done.now ≡ false) }
 {
     if is_named(guest.name.as_str(), done) {
         Err(row.fault("name", ExpWhy::Twice))
@@ -75,6 +76,7 @@ fn guest_step(
     requires slots { 0 < slots }
     ensures given { Gives result (guest_step slots done.now (view value.now)) }
     ensures well { IfOk result (IsGuest slots) }
+    ensures new { IfOk result (λ g. is_named g.name done.now ≡ false) }
 {
     let row = row(Section::Guest, done.len() as u32, value)?;
     let guest = read_guest(alloc, slots, &row)?;

@@ -4,7 +4,7 @@ ghost use Rattle.std.specs.List.{list_all};
 ghost use Rattle.toml.specs.View.{table_view};
 ghost use Rattle.exp_file.specs.Lists.{Reads};
 ghost use Rattle.exp_file.specs.Places.{place};
-ghost use Rattle.exp_file.specs.Reading.{top_of, built, is_built, reading};
+ghost use Rattle.exp_file.specs.Reading.{top_of, built, is_built, said, reading};
 ghost use Rattle.exp_file.specs.declared.section.Section.TheVariants.{Top};
 ghost use Rattle.exp_file.specs.WellFormed.{IsWellFormed};
 
@@ -71,6 +71,30 @@ fn read_top(alloc: Global, row: &Row<'_>) -> Result<Experiment, ExpErr>
     })
 }
 
+#[tactic(auto, unfolding(crate::specs::Reading::said))]
+fn read_document(alloc: Global, bytes: &[u8]) -> Result<Experiment, ExpErr>
+    ensures given { Reads result (said bytes.now) }
+    ensures well { IfOk result IsWellFormed }
+{
+    match toml::table_from_slice(alloc, bytes) {
+        Ok(table) => read_top(
+            alloc,
+            &Row {
+                section: Section::Top,
+                index: 0,
+                table: &table,
+            },
+        ),
+        Err(e) => {
+            if e.is_memory() {
+                Err(ExpErr::NoMemory)
+            } else {
+                Err(top_fault(ExpWhy::NotToml))
+            }
+        }
+    }
+}
+
 /// The experiment that a file's bytes say, or the first fault of the file.
 #[tactic(auto, unfolding(crate::specs::Reading::reading, crate::specs::Reading::built))]
 pub fn read_experiment(alloc: Global, bytes: &[u8]) -> Result<Experiment, ExpErr>
@@ -78,17 +102,7 @@ pub fn read_experiment(alloc: Global, bytes: &[u8]) -> Result<Experiment, ExpErr
     ensures well_formed { IfOk result IsWellFormed }
     ensures built { IfOk result (λ e. is_built e ≡ true) }
 {
-    let table = match toml::table_from_slice(alloc, bytes) {
-        Ok(table) => table,
-        Err(e) if e.is_memory() => return Err(ExpErr::NoMemory),
-        Err(_) => return Err(top_fault(ExpWhy::NotToml)),
-    };
-    let top = Row {
-        section: Section::Top,
-        index: 0,
-        table: &table,
-    };
-    let experiment = read_top(alloc, &top)?;
+    let experiment = read_document(alloc, bytes)?;
     if is_built(&experiment) {
         Ok(experiment)
     } else {

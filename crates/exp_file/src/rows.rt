@@ -4,7 +4,7 @@ ghost use Rattle.std.specs.List.{list_any, list_all};
 ghost use Rattle.std.specs.Str.{bytes_eq};
 ghost use Rattle.toml.specs.Data.{get_member, as_str};
 ghost use Rattle.toml.specs.View.{view, table_view, items_view};
-ghost use Rattle.exp_file.specs.Rows.{Gives, at_key, needed, with_default, number_in, number, number_or, maybe_number, text, text_of, maybe_text, text_in, multiple, has_form, is_name_byte, is_not_zero, first_unknown, known, keys_of, fault_at, TextAt, TextGives, IsNameForm, some_array, format, array_in, array, sized};
+ghost use Rattle.exp_file.specs.Rows.{Gives, at_key, needed, with_default, number_in, number, number_or, maybe_number, text, text_of, maybe_text, text_in, multiple, has_form, is_name_byte, is_not_zero, first_unknown, known, keys_of, fault_at, TextAt, TextGives, IsNameForm, some_array, some_of, format, array_in, array, sized};
 ghost use Rattle.tb_base.specs.Names.{IsNameLength};
 ghost use Rattle.exp_file.specs.RowOf.{ArrayAt, ItemsGive};
 ghost use Rattle.exp_file.specs.Places.{place};
@@ -298,11 +298,26 @@ impl Row<'_> {
         ensures given { ItemsGive result (some_array (place self.now.section self.now.index self.now.table.now) key.now most none) }
         ensures bound { IfOk result (λ vs. (0 < length vs.now) × (length vs.now ≤ most)) }
     {
-        let values = self.array(key, most)?;
-        if values.is_empty() {
-            return Err(self.fault(key, none));
+        match self.array(key, most) {
+            Ok(values) => self.some_of(key, none, values),
+            Err(e) => Err(e),
         }
-        Ok(values)
+    }
+
+    fn some_of<'a>(
+        &self,
+        key: &str,
+        none: ExpWhy,
+        values: &'a [Value],
+    ) -> Result<&'a [Value], ExpErr>
+        ensures given { ItemsGive result (some_of (place self.now.section self.now.index self.now.table.now) key.now none (items_view values.now)) }
+        ensures same { IfOk result (λ vs. (0 < length vs.now) × (length vs.now ≡ length values.now)) }
+    {
+        if values.is_empty() {
+            Err(self.fault(key, none))
+        } else {
+            Ok(values)
+        }
     }
 }
 
@@ -316,8 +331,15 @@ fn array_at<'a>(table: &'a Table, key: &str, most: usize) -> Result<&'a [Value],
     let Some(values) = value.as_array() else {
         return Err(ExpWhy::WrongKind);
     };
+    sized(values.as_slice(), most)
+}
+
+fn sized(values: &[Value], most: usize) -> Result<&[Value], ExpWhy>
+    ensures given { ArrayAt result (sized most (Some (items_view values.now))) }
+    ensures bound { IfOk result (λ vs. length vs.now ≤ most) }
+{
     if values.len() <= most {
-        Ok(values.as_slice())
+        Ok(values)
     } else {
         Err(ExpWhy::Range)
     }
