@@ -17,6 +17,9 @@ mod section;
 mod slot_spec;
 mod slots;
 
+#[cfg(test)]
+mod tests;
+
 pub use disk_spec::DiskSpec;
 pub use exp_fault::{ExpErr, ExpFault};
 pub use exp_why::ExpWhy;
