@@ -6,6 +6,7 @@ use crate::exp_why::ExpWhy::{
 use crate::guest_spec::Format;
 use crate::section::Section::{self, Disk, Guest, Link, Slot, Top};
 use crate::{ExpErr, read_experiment};
+use std::test::Fail;
 
 const HEAD: &str = "version = 1\nfactor = 2\n";
 const SLOT: &str = "slot = [{ capacity = 1 }]\n";
