@@ -1,5 +1,5 @@
-use Rattle.std.proofs.Common.{◌≡◌, ℕ, zero, suc, ◌+◌, ◌-◌, ◌<◌, ◌≤◌, Bool, true, false, cond, not, ◌==◌, nat_lt, nat_le, List, [], ◌∷◌, ◌++◌, map, filter, refl, sym, ◌∙◌, ap, arith, append-nil}
-use Rattle.std.proofs.lemmas.List.Elements.{filter-append}
+use Rattle.std.proofs.Common.{◌≡◌, ℕ, zero, suc, ◌+◌, ◌-◌, ◌<◌, ◌≤◌, Bool, true, false, cond, not, ◌==◌, nat_lt, nat_le, List, [], ◌∷◌, ◌++◌, map, filter, All, refl, sym, ◌∙◌, ap, arith, append-nil}
+use Rattle.std.proofs.lemmas.List.Elements.{filter-append, filter_passes, All-weaker, All-filter, All-nil, All-append, All-map}
 use Rattle.std.proofs.lemmas.Bool.Decides.{nat_tests}
 use Rattle.lookahead_core.specs.Flying.{stamped, sent_below, flying}
 use Rattle.lookahead_core.specs.Motion.{Bytes}
@@ -79,3 +79,22 @@ more_frames left delay next b h =
     ap (λ xs. flying left delay next b ++ xs) (
     filter_stamped (λ t. nat_le next (t + delay)) b (left b)
     ∙ (let le : nat_le next (b + delay) ≡ true = grind (arith, nat_tests) in rw le refl))
+
+-- what is in flight arrives at the next tick or later, and left below the sender's count
+pub flying_late : (left : ℕ → List Bytes) (delay next t : ℕ) → All (λ (f : ℕ × Bytes). next ≤ f.0 + delay) (flying left delay next t)
+flying_late left delay next t =
+    All-weaker (λ (f : ℕ × Bytes). nat_le next (f.0 + delay) ≡ true) (λ (f : ℕ × Bytes). next ≤ f.0 + delay) (λ f h. is_le (f.0 + delay) h) (flying left delay next t)
+      (filter_passes (λ (f : ℕ × Bytes). nat_le next (f.0 + delay)) (sent_below left t))
+  where
+    is_le : (a : ℕ) → nat_le next a ≡ true → next ≤ a
+    is_le a h = grind (arith, nat_tests)
+
+sent_early : (left : ℕ → List Bytes) (n t : ℕ) → t ≤ n + 1 → All (λ (f : ℕ × Bytes). f.0 ≤ n) (sent_below left t)
+sent_early left n zero le = All-nil _
+sent_early left n (suc t) le =
+    let this : t ≤ n = omega arith in
+    All-append (λ (f : ℕ × Bytes). f.0 ≤ n) (sent_below left t) (stamped t (left t)) (sent_early left n t (omega arith))
+      (All-map (λ (f : ℕ × Bytes). f.0 ≤ n) (λ (f : Bytes). (t, f)) (left t) (λ k d lt. this))
+
+pub flying_early : (left : ℕ → List Bytes) (delay next n t : ℕ) → t ≤ n → All (λ (f : ℕ × Bytes). f.0 ≤ n) (flying left delay next t)
+flying_early left delay next n t le = All-filter (λ (f : ℕ × Bytes). nat_le next (f.0 + delay)) (λ (f : ℕ × Bytes). f.0 ≤ n) (sent_below left t) (sent_early left n t (omega arith))

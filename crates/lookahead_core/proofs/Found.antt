@@ -2,18 +2,31 @@ use Rattle.std.proofs.Common.{◌≡◌, ◌≢◌, ℕ, zero, suc, ◌+◌, ◌
 use Rattle.std.proofs.Props.{props}
 use Rattle.std.proofs.Math.Logic.{∥∥₁_elim, ∥∥₁_map}
 use Rattle.lookahead_core.specs.Events.{Progress}
-use Rattle.lookahead_core.specs.Links.{IsOnceFrom}
-use Rattle.lookahead_core.specs.Motion.{Motion, Clock, Idle, Running}
-use Rattle.lookahead_core.specs.Seats.{done_of}
-use Rattle.lookahead_core.specs.Stands.{Stands, SeatStands, StandsForSome}
+use Rattle.lookahead_core.specs.Links.{IsOnceFrom, NoneEarlier, NoneLater}
+use Rattle.lookahead_core.specs.Motion.{Bytes, Motion, Clock, Idle, Running}
+use Rattle.lookahead_core.specs.Seats.{done_of, next_of, next_tick}
+use Rattle.lookahead_core.specs.Stands.{LinkStands, Stands, SeatStands, StandsForSome}
 use Rattle.lookahead_core.specs.Synchronous.{Setup}
 use Rattle.lookahead_core.specs.declared.link.Link.{Link}
 use Rattle.lookahead_core.specs.declared.seat.Seat.{Seat}
+use Rattle.lookahead_core.specs.Flying.{left_in}
+use Rattle.lookahead_core.proofs.Flight.{flying_late, flying_early}
+use Rattle.lookahead_core.proofs.Seats.{read_at}
 use Rattle.lookahead_core.proofs.May.{all_near}
 use Rattle.lookahead_core.proofs.Goes.{once_of}
 
 clock_set : (a b : Clock) (p q : a ≡ b) → p ≡ q
 clock_set = hlevel props
+
+late_link : {S : Type 0} (m : Motion S) (x : Setup S) (done next : ℕ → ℕ) (link : Link) (n : ℕ) → LinkStands m x done next link → next link.wire.to ≡ n →
+    All (λ (f : ℕ × Bytes). n ≤ f.0 + link.line.delay) link.line.frames
+late_link m x done next link n st e =
+    rw (st.delay, st.frames, e) (flying_late (λ t. left_in m x t link.wire.from link.wire.from_nic) link.wire.delay n (done link.wire.from))
+
+early_link : {S : Type 0} (m : Motion S) (x : Setup S) (done next : ℕ → ℕ) (link : Link) (n : ℕ) → LinkStands m x done next link → done link.wire.from ≡ n →
+    All (λ (f : ℕ × Bytes). f.0 ≤ n) link.line.frames
+early_link m x done next link n st e =
+    rw (st.frames, e) (flying_early (λ t. left_in m x t link.wire.from link.wire.from_nic) link.wire.delay (next link.wire.to) n n (omega arith))
 
 -- what holds of a core that stands for some setup, whichever it is
 module _ {N S : Type 0} (m : Motion S) (state : N → S) (clock : N → Clock) (seats : List (Seat N)) (links : List Link) (some : StandsForSome m state clock seats links) where
@@ -54,3 +67,12 @@ module _ {N S : Type 0} (m : Motion S) (state : N → S) (clock : N → Clock) (
   pub same_count : (who used : ℕ) (seats' : List (Seat N)) (links' : List Link) →
       ((x : Setup S) → Stands m state clock x seats links → Progress m state clock x who used seats seats' links') → length seats' ≡ length seats
   same_count who used seats' links' goes = ∥∥₁_elim some (hlevel props) (λ w. (goes w.0 w.1).stands.count ∙ sym w.1.count)
+
+  -- no frame arrives at an idle node before its next tick, and none left a node after its tick
+  pub none_earlier : (who : ℕ) (seat : Seat N) → slice_get seats who ≡ Some seat → seat.begun ≡ false → NoneEarlier who seat.done links
+  none_earlier who seat here idle k d lt to i f lt' = ∥∥₁_elim some (hlevel props) (λ w.
+      late_link m w.0 (done_of seats) (next_of seats) (get_or links k d) seat.done (w.1.lines k d lt) (ap (next_of seats) to ∙ read_at next_tick seats who seat here ∙ rw idle refl) i f lt')
+
+  pub none_later : (who : ℕ) (seat : Seat N) → slice_get seats who ≡ Some seat → NoneLater who seat.done links
+  none_later who seat here k d lt from i f lt' = ∥∥₁_elim some (hlevel props) (λ w.
+      early_link m w.0 (done_of seats) (next_of seats) (get_or links k d) seat.done (w.1.lines k d lt) (ap (done_of seats) from ∙ read_at (λ s. s.done) seats who seat here) i f lt')

@@ -112,7 +112,7 @@ link_pulled m x done next done' next' who n link at at' others same may st =
 wire_pulled : (who n : ℕ) (link : Link) → (pulled who n link).wire ≡ link.wire
 wire_pulled who n link = elim (eqb_tells link.wire.to who) [ inl e ↦ rw e.0 refl | inr e ↦ rw e.0 refl ]
 
-wires_pulled : (who n : ℕ) (links : List Link) → map (λ (link : Link). link.wire) (map (pulled who n) links) ≡ map (λ (link : Link). link.wire) links
+pub wires_pulled : (who n : ℕ) (links : List Link) → map (λ (link : Link). link.wire) (map (pulled who n) links) ≡ map (λ (link : Link). link.wire) links
 wires_pulled who n [] = refl
 wires_pulled who n (link ∷ links) = rw (wire_pulled who n link, wires_pulled who n links) refl
 
@@ -172,7 +172,7 @@ link_sent m x done next done' next' who n left link at at' others same leaves st
 sent_wire : (who n : ℕ) (left : List (List Bytes)) (link : Link) → (sent who n left link).wire ≡ link.wire
 sent_wire who n left link = elim (eqb_tells link.wire.from who) [ inl e ↦ rw e.0 refl | inr e ↦ rw e.0 refl ]
 
-wires_sent : (who n : ℕ) (left : List (List Bytes)) (links : List Link) → map (λ (link : Link). link.wire) (map (sent who n left) links) ≡ map (λ (link : Link). link.wire) links
+pub wires_sent : (who n : ℕ) (left : List (List Bytes)) (links : List Link) → map (λ (link : Link). link.wire) (map (sent who n left) links) ≡ map (λ (link : Link). link.wire) links
 wires_sent who n left [] = refl
 wires_sent who n left (link ∷ links) = rw (sent_wire who n left link, wires_sent who n left links) refl
 
@@ -214,7 +214,7 @@ module _ {N S : Type 0} (m : Motion S) (state : N → S) (clock : N → Clock) (
         nics = ev.nics ∙ old.nics;
         made_in = rw ev.made (omega arith);
         early = rw ev.done old.early;
-        some = old.some;
+        rate_range = old.rate_range;
       }
 
   -- the other nodes stand as they did
@@ -256,7 +256,7 @@ module _ {N S : Type 0} (m : Motion S) (state : N → S) (clock : N → Clock) (
     nics = ev.nics ∙ old.nics;
     made_in = rw ev.rate ev.made;
     early = rw ev.done old.early;
-    some = old.some;
+    rate_range = old.rate_range;
   }
 
   pub steps_keep : (who : ℕ) (seats : List (Seat N)) (links : List Link) (seat seat' : Seat N) → Stands m state clock x seats links →
@@ -289,7 +289,7 @@ module _ {N S : Type 0} (m : Motion S) (state : N → S) (clock : N → Clock) (
         nics = ev.nics ∙ old.nics;
         made_in = rw none (omega arith);
         early = rw (ev.done, add-one) less;
-        some = old.some;
+        rate_range = old.rate_range;
       }
 
   pub end_keeps : (who : ℕ) (seats : List (Seat N)) (links : List Link) (seat seat' : Seat N) → Stands m state clock x seats links →

@@ -9,3 +9,5 @@ pub mod Opens
 pub mod Seats
 pub mod Rests
 pub mod Limits
+pub mod Tells
+pub mod Wired

@@ -1,11 +1,11 @@
-use Rattle.std.proofs.Common.{◌≡◌, ◌≢◌, ℕ, zero, suc, ◌+◌, ◌<◌, ◌≤◌, Bool, true, false, cond, not, ◌==◌, List, [], ◌∷◌, ◌++◌, map, filter, take, drop, length, get_or, slice_set, replicate, refl, sym, ◌∙◌, ap, arith, append-nil, All, append_assoc, add-one}
+use Rattle.std.proofs.Common.{◌≡◌, ◌≢◌, ℕ, zero, suc, ◌+◌, ◌-◌, ◌<◌, ◌≤◌, Bool, true, false, cond, not, ◌==◌, List, [], ◌∷◌, ◌++◌, map, filter, take, drop, length, get_or, slice_set, replicate, refl, sym, ◌∙◌, ap, arith, append-nil, All, append_assoc, add-one}
 use Rattle.std.proofs.lemmas.List.FromFn.{get_or-map-range_with_len, length-map-range_with_len}
 use Rattle.std.specs.List.{range_with_len}
 use Rattle.std.proofs.lemmas.List.{get_or-set_same, length-replicate}
 use Rattle.std.proofs.lemmas.List.Elements.{All-head, All-tail}
-use Rattle.std.proofs.lemmas.Bool.Decides.{eqb_tells}
+use Rattle.std.proofs.lemmas.Bool.Decides.{eqb_tells, nat_tests}
 use Rattle.lookahead_core.proofs.Seats.{length_set}
-use Rattle.flight_line.specs.InFlight.{InFlight, due_at}
+use Rattle.flight_line.specs.InFlight.{InFlight, due_at, last_leave}
 use Rattle.lookahead_core.specs.Links.{without_due, brought_by, all_brought, sent}
 use Rattle.lookahead_core.specs.Lists.{list_at, joined}
 use Rattle.lookahead_core.specs.Motion.{Bytes}
@@ -144,3 +144,31 @@ sent_joined who n nics ports left links empty in' = map_same_where (sent who n (
     let nic : ℕ = (get_or links k d).wire.from_nic in
     let n : length ports ≡ nics = ap length empty ∙ length-replicate nics [] in let lt' : nic < length ports = rw n (in' k d lt e) in
     list_at-joined ports left nic lt' ∙ ap (λ p. list_at p nic ++ list_at left nic) empty ∙ ap (λ xs. xs ++ list_at left nic) (list_at-replicate nics nic)))
+
+-- a link is replaced by one of the same wire
+pub wires_set : (links : List Link) (i : ℕ) (d link : Link) → i < length links → link.wire ≡ (get_or links i d).wire →
+    map (λ (l : Link). l.wire) (slice_set links i link) ≡ map (λ (l : Link). l.wire) links
+wires_set [] i d link lt e = absurd (omega arith)
+wires_set (x ∷ links) zero d link lt e = ap (λ w. w ∷ map (λ (l : Link). l.wire) links) e
+wires_set (x ∷ links) (suc i) d link lt e = ap (λ ws. x.wire ∷ ws) (wires_set links i d link (omega arith) e)
+
+-- the last frame left no later than all
+pub last_early : (n : ℕ) (fs : List (ℕ × Bytes)) → All (λ (f : ℕ × Bytes). f.0 ≤ n) fs → last_leave fs ≤ n
+last_early n [] all = omega arith
+last_early n (f ∷ []) all = All-head (λ (f : ℕ × Bytes). f.0 ≤ n) f [] all
+last_early n (f ∷ g ∷ fs) all = last_early n (g ∷ fs) (All-tail (λ (f : ℕ × Bytes). f.0 ≤ n) f (g ∷ fs) all)
+
+-- the first frame of a line was due and is taken
+pub took : (n : ℕ) (l l' : InFlight) (f : Bytes) → l'.delay ≡ l.delay → l.delay ≤ n → l.frames ≡ (n - l.delay, f) ∷ l'.frames →
+    (due_at n l ≡ f ∷ due_at n l') × (without_due n l' ≡ without_due n l)
+took n l l' f e le first =
+    let yes : ((n - l.delay + l.delay) == n) ≡ true = due_now n l.delay le in
+    (rw (first, yes, e) refl, rw (first, yes, e) refl)
+  where
+    due_now : (n d : ℕ) → d ≤ n → ((n - d + d) == n) ≡ true
+    due_now n d le = grind (arith, nat_tests)
+
+pub same_flight : (l l' : InFlight) → l.delay ≡ l'.delay → l.frames ≡ l'.frames → l ≡ l'
+same_flight l l' e f =
+    ap (λ (d : ℕ). let made : InFlight = record { delay = d; frames = l.frames } in made) e
+    ∙ ap (λ (fs : List (ℕ × Bytes)). let made : InFlight = record { delay = l'.delay; frames = fs } in made) f

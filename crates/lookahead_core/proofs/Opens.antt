@@ -3,7 +3,7 @@ use Rattle.std.proofs.Math.ListN.{length-map}
 use Rattle.std.proofs.lemmas.List.Elements.{All-map}
 use Rattle.std.proofs.lemmas.Option.{get_or_from_slice_get}
 use Rattle.lookahead_core.specs.Flying.{flying}
-use Rattle.lookahead_core.specs.Motion.{Motion, Clock, Idle}
+use Rattle.lookahead_core.specs.Motion.{IsRate, Motion, Clock, Idle}
 use Rattle.lookahead_core.specs.Opening.{IsOpening, IsJoin, AreOnceFrom, fresh, opened}
 use Rattle.lookahead_core.specs.Seats.{done_of, next_of, next_tick, begun_at}
 use Rattle.lookahead_core.specs.Stands.{Stands, StandsForSome, SeatStands, LinkStands}
@@ -34,8 +34,8 @@ wires_opened (wire ∷ wires) = ap (λ ws. wire ∷ ws) (wires_opened wires)
 
 module _ {N S : Type 0} (m : Motion S) (state : N → S) (clock : N → Clock) (nodes : List N) (wires : List Wire)
     (idle : (g : ℕ) (node : N) → slice_get nodes g ≡ Some node → clock node ≡ Idle 0) (join : All (IsJoin m state nodes) wires) (once : AreOnceFrom wires)
-    (some_rate : (g : ℕ) (node : N) → slice_get nodes g ≡ Some node → 1 ≤ m.rate (state node)) where
-  seat_opens : (x : Setup S) → IsOpening m state nodes wires x → (g : ℕ) (node : N) → slice_get nodes g ≡ Some node → SeatStands m state clock x g (fresh node)
+    (some_rate : (g : ℕ) (node : N) → slice_get nodes g ≡ Some node → IsRate (m.rate (state node))) where
+  seat_opens : (x : Setup S) → IsOpening state nodes wires x → (g : ℕ) (node : N) → slice_get nodes g ≡ Some node → SeatStands m state clock x g (fresh node)
   seat_opens x open' g node here =
       let is : state node ≡ x.opening g = open'.states g node here in
       record {
@@ -46,10 +46,10 @@ module _ {N S : Type 0} (m : Motion S) (state : N → S) (clock : N → Clock) (
         nics = ap m.nics is;
         made_in = omega arith;
         early = omega arith;
-        some = rw (← is) (some_rate g node here);
+        rate_range = rw (← is) (some_rate g node here);
       }
 
-  link_opens : (x : Setup S) → IsOpening m state nodes wires x → (wire : Wire) → IsJoin m state nodes wire →
+  link_opens : (x : Setup S) → IsOpening state nodes wires x → (wire : Wire) → IsJoin m state nodes wire →
       LinkStands m x (done_of (map fresh nodes)) (next_of (map fresh nodes)) (opened wire)
   link_opens x open' wire j =
       let from = get_some nodes wire.from j.from_in in
@@ -68,7 +68,7 @@ module _ {N S : Type 0} (m : Motion S) (state : N → S) (clock : N → Clock) (
         bound = rw next (omega arith);
       }
 
-  pub opens : (x : Setup S) → IsOpening m state nodes wires x → Stands m state clock x (map fresh nodes) (map opened wires)
+  pub opens : (x : Setup S) → IsOpening state nodes wires x → Stands m state clock x (map fresh nodes) (map opened wires)
   opens x open' = record {
     count = length-map nodes fresh ∙ sym open'.count;
     wires = wires_opened wires ∙ sym open'.wires_are;
@@ -81,5 +81,5 @@ module _ {N S : Type 0} (m : Motion S) (state : N → S) (clock : N → Clock) (
   opens_some some =
       let first = get_some nodes 0 some in
       let x : Setup S = record { count = length nodes; opening = λ g. state (get_or nodes g first.0); wires = wires } in
-      let is : IsOpening m state nodes wires x = record { count = refl; states = λ g node h. ap state (sym (get_or_from_slice_get nodes g node first.0 h)); wires_are = refl } in
+      let is : IsOpening state nodes wires x = record { count = refl; states = λ g node h. ap state (sym (get_or_from_slice_get nodes g node first.0 h)); wires_are = refl } in
       ∣ (x, opens x is) ∣₁

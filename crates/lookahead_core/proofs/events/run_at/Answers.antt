@@ -27,9 +27,9 @@ pub returns-clause-begun : goal.returns-clause-begun
 returns-clause-begun g c = λ s h. ap (λ t. t.begun) (get_set_same c.args.seats.now c.args.who c.run_seat.new.seat s h) ∙ c.run_seat.ensures.seat.begun
 
 pub returns-clause-done : goal.returns-clause-done
-returns-clause-done g c =
+returns-clause-done g c = λ i.
     let here = slice_get-get_or c.args.seats.now c.args.who c.index-seats-who.result c.requires.who in
-    read_set_kept (λ s. s.done) c.args.seats.now c.args.who c.args.who c.run_seat.new.seat _ here c.run_seat.ensures.seat.done
+    read_set_kept (λ s. s.done) c.args.seats.now c.args.who i c.run_seat.new.seat _ here c.run_seat.ensures.seat.done
 
 pub returns-clause-spent : goal.returns-clause-spent
 returns-clause-spent g c = λ s h.

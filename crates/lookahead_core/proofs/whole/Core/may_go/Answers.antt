@@ -1,6 +1,8 @@
-use Rattle.std.proofs.Common.{◌≡◌}
-use Rattle.lookahead_core.proofs.Found.{near, from_in}
+use Rattle.std.proofs.Common.{◌≡◌, ◌∙◌}
+use Rattle.std.proofs.Props.{props}
+use Rattle.std.proofs.Math.Logic.{∥∥₁_elim}
+use Rattle.lookahead_core.proofs.Limits.{least_goes}
 use Rattle.lookahead_core.proofs.whole.Core.may_go.Goals as goal
 
-pub may_go_at-requires-clause-near : goal.may_go_at-requires-clause-near
-may_go_at-requires-clause-near g c = rw (c.deref.ensures.value, c.deref-2.ensures.value) (near g.N.Node.motion g.N.Node.state g.N.Node.clock c.args.self.now.seats.items c.args.self.now.links.items (c.args.self.now.stands c.requires.going))
+pub returns-clause-least : goal.returns-clause-least
+returns-clause-least g c = ?
