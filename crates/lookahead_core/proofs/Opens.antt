@@ -3,9 +3,10 @@ use Rattle.std.proofs.Math.ListN.{length-map}
 use Rattle.std.proofs.lemmas.List.Elements.{All-map}
 use Rattle.std.proofs.lemmas.Option.{get_or_from_slice_get}
 use Rattle.lookahead_core.specs.Flying.{flying}
+use Rattle.lookahead_core.specs.Links.{IsWired}
 use Rattle.lookahead_core.specs.Motion.{IsRate, Motion, Clock, Idle}
 use Rattle.lookahead_core.specs.Opening.{IsOpening, IsJoin, AreOnceFrom, fresh, opened}
-use Rattle.lookahead_core.specs.Seats.{done_of, next_of, next_tick, begun_at}
+use Rattle.lookahead_core.specs.Seats.{rate_in, done_of, next_of, next_tick, begun_at}
 use Rattle.lookahead_core.specs.Stands.{Stands, StandsForSome, SeatStands, LinkStands}
 use Rattle.lookahead_core.specs.Synchronous.{Setup, sys}
 use Rattle.lookahead_core.specs.declared.link.Link.{Link}
@@ -28,7 +29,7 @@ idle_of [] g = refl
 idle_of (node ∷ nodes) zero = refl
 idle_of (node ∷ nodes) (suc g) = idle_of nodes g
 
-wires_opened : (wires : List Wire) → map (λ (link : Link). link.wire) (map opened wires) ≡ wires
+pub wires_opened : (wires : List Wire) → map (λ (link : Link). link.wire) (map opened wires) ≡ wires
 wires_opened [] = refl
 wires_opened (wire ∷ wires) = ap (λ ws. wire ∷ ws) (wires_opened wires)
 
@@ -83,3 +84,17 @@ module _ {N S : Type 0} (m : Motion S) (state : N → S) (clock : N → Clock) (
       let x : Setup S = record { count = length nodes; opening = λ g. state (get_or nodes g first.0); wires = wires } in
       let is : IsOpening state nodes wires x = record { count = refl; states = λ g node h. ap state (sym (get_or_from_slice_get nodes g node first.0 h)); wires_are = refl } in
       ∣ (x, opens x is) ∣₁
+
+  pub opens_wired : IsWired (map fresh nodes) (map opened wires)
+  opens_wired = record {
+    from_in = All-map (λ (link : Link). link.wire.from < length (map fresh nodes)) opened wires (λ k d lt. rw (length-map nodes fresh) (join k d lt).from_in);
+    near = All-map (λ (link : Link). link.wire.delay ≤ 10000) opened wires (λ k d lt. (join k d lt).near);
+    early = λ g. rw (zero_of (λ (s : Seat N). s.done) (λ _. refl) nodes g) (omega arith);
+  }
+
+-- the rate of a node as it is taken in
+pub rate_of_fresh : {N S : Type 0} (m : Motion S) (state : N → S) (nodes : List N) (g : ℕ) (node : N) → slice_get nodes g ≡ Some node →
+    rate_in m state (slice_get (map fresh nodes) g) ≡ m.rate (state node)
+rate_of_fresh m state [] g node e = cc
+rate_of_fresh m state (n ∷ nodes) zero node e = let h : n ≡ node = cc in ap (λ k. m.rate (state k)) h
+rate_of_fresh m state (n ∷ nodes) (suc g) node e = rate_of_fresh m state nodes g node e

@@ -5,7 +5,7 @@ use Rattle.lookahead_core.specs.Seats.{begun_at}
 use Rattle.lookahead_core.specs.Stops.{IsTickDone}
 use Rattle.lookahead_core.specs.Synchronous.{records_of}
 use Rattle.lookahead_core.proofs.May.{may_begin, get_some}
-use Rattle.lookahead_core.proofs.Found.{near, from_in, still, same_count, made_in}
+use Rattle.lookahead_core.proofs.Found.{still, same_count, made_in}
 use Rattle.lookahead_core.proofs.Goes.{progress_then}
 use Rattle.lookahead_core.proofs.Rests.{Rested, rests_after}
 use Rattle.lookahead_core.proofs.Wired.{wired_done}
@@ -15,6 +15,7 @@ use Rattle.lookahead_core.specs.Rests.{AllAtRest}
 use Rattle.lookahead_core.specs.Stands.{Stands}
 use Rattle.lookahead_core.specs.Synchronous.{Setup}
 use Rattle.lookahead_core.specs.declared.stop.Stop.TheVariants.{Spent, TickDone}
+use Rattle.lookahead_core.proofs.advance.advance_at.Given.{Over}
 use Rattle.lookahead_core.proofs.advance.advance_at.Goals as goal
 
 made_all : (made rate : ℕ) → made ≤ rate → nat_le rate made ≡ true → made ≡ rate
@@ -81,7 +82,7 @@ returns-clause-recs g c = λ _ x st.
 
 
 -- what the three events leave, of the setup that the nodes stand for
-spent_so : (g : goal.Over) (c : goal.Then-not-is_run_out g) → (x : Setup g.N.Node.State) → Stands g.N.Node.motion g.N.Node.state g.N.Node.clock x c.args.seats.now c.args.links.now →
+spent_so : (g : Over) (c : goal.Then-not-is_run_out g) → (x : Setup g.N.Node.State) → Stands g.N.Node.motion g.N.Node.state g.N.Node.clock x c.args.seats.now c.args.links.now →
     AllAtRest g.N.Node.motion g.N.Node.state c.args.seats.now → Rested g.N.Node.motion g.N.Node.state Spent c.run_at-used.result c.run_at-used.new.seats
 spent_so g c x st rest =
     rests_after g.N.Node.motion g.N.Node.state g.N.Node.clock x Spent c.args.who c.args.units c.run_at-used.result c.args.seats.now c.run_at-used.new.seats c.args.links.now c.begin_at.new.links c.args.recs.now.items c.args.recs.now.items
@@ -94,16 +95,33 @@ pub returns-then-not-is_run_out-clause-uses : goal.returns-then-not-is_run_out-c
 returns-then-not-is_run_out-clause-uses g c = λ rest ne. ∥∥₁_elim c.requires.stands (hlevel props) (λ w. (spent_so g c w.0 w.1 rest).uses ne)
 
 pub returns-then-not-is_run_out-clause-wired : goal.returns-then-not-is_run_out-clause-wired
-returns-then-not-is_run_out-clause-wired g c = ?
+returns-then-not-is_run_out-clause-wired g c = wired_done c.begin_at.new.seats c.run_at-used.new.seats c.begin_at.new.links c.begin_at.new.links c.begin_at.ensures.wired c.run_at-used.auto.seats refl
+    (λ i. omega (arith, c.begin_at.ensures.wired.early i, c.run_at-used.ensures.done i))
 
 pub end_at-requires-clause-wired : goal.end_at-requires-clause-wired
-end_at-requires-clause-wired g c = ?
+end_at-requires-clause-wired g c = wired_done c.begin_at.new.seats c.run_at-used.new.seats c.begin_at.new.links c.begin_at.new.links c.begin_at.ensures.wired c.run_at-used.auto.seats refl
+    (λ i. omega (arith, c.begin_at.ensures.wired.early i, c.run_at-used.ensures.done i))
 
 pub end_at-requires-clause-early : goal.end_at-requires-clause-early
-end_at-requires-clause-early g c = ?
+end_at-requires-clause-early g c = omega (arith, c.run_at-used.ensures.done c.args.who, c.begin_at.ensures.done c.args.who, c.requires.early)
+
+done_so : (g : Over) (c : goal.In_ok-end_at g) → (x : Setup g.N.Node.State) → Stands g.N.Node.motion g.N.Node.state g.N.Node.clock x c.args.seats.now c.args.links.now →
+    AllAtRest g.N.Node.motion g.N.Node.state c.args.seats.now → Rested g.N.Node.motion g.N.Node.state TickDone c.run_at-used.result c.end_at.new.seats
+done_so g c x st rest =
+    let p = returns-clause-progress g c x st in
+    let lt : c.args.who < length c.end_at.new.seats = omega (arith, ap (λ (n : ℕ). n) (p.stands.count ∙ sym st.count), c.requires.who) in
+    let at = get_some c.end_at.new.seats c.args.who lt in
+    let s : IsTickDone c.args.who c.args.units c.run_at-used.result c.args.seats.now c.end_at.new.seats c.args.links.now = record {
+        may = sym c.may_go_at.ensures ∙ c.if-not-may_go_at.false;
+        done = c.in_ok-end_at.ensures.done ∙ ap (λ n. n + 1) (c.run_at-used.ensures.done c.args.who ∙ c.begin_at.ensures.done c.args.who);
+        ended = ap begun_at at.1 ∙ c.in_ok-end_at.ensures.ended at.0 at.1;
+        budget = c.run_at-used.ensures.budget;
+      } in
+    rests_after g.N.Node.motion g.N.Node.state g.N.Node.clock x TickDone c.args.who c.args.units c.run_at-used.result c.args.seats.now c.end_at.new.seats c.args.links.now c.end_at.new.links c.args.recs.now.items c.end_at.new.recs.items
+        c.requires.some st rest p c.requires.who s
 
 pub returns-clause-rests : goal.returns-clause-rests
-returns-clause-rests g c = ?
+returns-clause-rests g c = λ rest. ∥∥₁_elim c.requires.stands (hlevel props) (λ w. (done_so g c w.0 w.1 rest).rests)
 
 pub returns-clause-uses : goal.returns-clause-uses
-returns-clause-uses g c = ?
+returns-clause-uses g c = λ rest ne. ∥∥₁_elim c.requires.stands (hlevel props) (λ w. (done_so g c w.0 w.1 rest).uses ne)
