@@ -131,22 +131,53 @@ impl<O: Sink> Keep<O> for JournalKeep {
 
     ghost head = { head_of };
 
-    fn host(&mut self, out: &mut O, t: u64) -> Result<(), KeepErr> {
+    fn host(&mut self, out: &mut O, t: u64) -> Result<(), KeepErr>
+        ensures adds { (before : Option (List ℕ)) (es : List Entry) → Stands (has_failed self.old) before (O.taken out.old) (journal_text (head_of self.old) es) → Stands (has_failed self.new) before (O.taken out.new) (journal_text (head_of self.new) (es ++ Host t ∷ [])) }
+        ensures members { length (head_of self.new).names.items ≡ length (head_of self.old).names.items }
+        ensures head { head_of self.new ≡ head_of self.old }
+        ensures cause { KeepCause (O.faults out.old) (O.faults out.new) result }
+        ensures ok { OnOk result ((has_failed self.old ≡ false) × (has_failed self.new ≡ false)) }
+        ensures err { OnErr result (has_failed self.new ≡ true) }
+        ensures stopped { has_failed self.old ≡ true → O.taken out.new ≡ O.taken out.old }
+    {
         self.line.clear();
         let made = put_host_tick(&mut self.line, t);
         put_line(&mut self.failed, out, made, &self.line)
     }
 
-    fn slot(&mut self, out: &mut O, s: u32) -> Result<(), KeepErr> {
+    fn slot(&mut self, out: &mut O, s: u32) -> Result<(), KeepErr>
+        ensures adds { (before : Option (List ℕ)) (es : List Entry) → Stands (has_failed self.old) before (O.taken out.old) (journal_text (head_of self.old) es) → Stands (has_failed self.new) before (O.taken out.new) (journal_text (head_of self.new) (es ++ Slot s ∷ [])) }
+        ensures members { length (head_of self.new).names.items ≡ length (head_of self.old).names.items }
+        ensures head { head_of self.new ≡ head_of self.old }
+        ensures cause { KeepCause (O.faults out.old) (O.faults out.new) result }
+        ensures ok { OnOk result ((has_failed self.old ≡ false) × (has_failed self.new ≡ false)) }
+        ensures err { OnErr result (has_failed self.new ≡ true) }
+        ensures stopped { has_failed self.old ≡ true → O.taken out.new ≡ O.taken out.old }
+    {
         self.line.clear();
         let made = put_slot(&mut self.line, s);
         put_line(&mut self.failed, out, made, &self.line)
     }
 
-    fn quantum(&mut self, out: &mut O, q: &Quantum, recs: &Log) -> Result<(), KeepErr> {
+    fn quantum(&mut self, out: &mut O, q: &Quantum, recs: &Log) -> Result<(), KeepErr>
+        requires { q.now.guest < length (head_of self.old).names.items }
+        ensures adds { (before : Option (List ℕ)) (es : List Entry) → Stands (has_failed self.old) before (O.taken out.old) (journal_text (head_of self.old) es) → Stands (has_failed self.new) before (O.taken out.new) (journal_text (head_of self.new) (es ++ Ran q.now recs.now.items ∷ [])) }
+        ensures members { length (head_of self.new).names.items ≡ length (head_of self.old).names.items }
+        ensures head { head_of self.new ≡ head_of self.old }
+        ensures cause { KeepCause (O.faults out.old) (O.faults out.new) result }
+        ensures ok { OnOk result ((has_failed self.old ≡ false) × (has_failed self.new ≡ false)) }
+        ensures err { OnErr result (has_failed self.new ≡ true) }
+        ensures stopped { has_failed self.old ≡ true → O.taken out.new ≡ O.taken out.old }
+    {
         self.line.clear();
         let made = put_quantum(&mut self.line, q);
         put_line(&mut self.failed, out, made, &self.line)?;
-        put_recs(&mut self.failed, &mut self.line, out, q.guest, recs.as_slice())
+        put_recs(
+            &mut self.failed,
+            &mut self.line,
+            out,
+            q.guest,
+            recs.as_slice(),
+        )
     }
 }

@@ -12,9 +12,9 @@ returns-in_err-put_line-clause-adds g c =
 pub loop-rec-preserved : goal.loop-rec-preserved
 loop-rec-preserved g c = record {
   adds =
-    recs_more c.args.failed.now c.loop-rec.failed c.put_line.new.failed (g.O.Sink.taken c.args.out.now) (g.O.Sink.taken c.loop-rec.out) (g.O.Sink.taken c.put_line.new.out) c.args.guest c.args.recs.now
-        c.loop-rec.rec-index _ (omega arith) (search rules) c.loop-rec.invariant.adds
-        (c.in_ok-put_line.ensures.adds (rec_line c.args.guest c.rec-item.result) (search rules));
+      recs_more c.args.failed.now c.loop-rec.failed c.put_line.new.failed (g.O.Sink.taken c.args.out.now) (g.O.Sink.taken c.loop-rec.out) (g.O.Sink.taken c.put_line.new.out) c.args.guest c.args.recs.now
+      c.loop-rec.rec-index _ (omega arith) (search rules) c.loop-rec.invariant.adds
+      (c.in_ok-put_line.ensures.adds (rec_line c.args.guest c.rec-item.result) (search rules));
   going = search rules;
   stopped = λ e. absurd (cc (c.in_ok-put_line.ensures.ok.0, c.loop-rec.invariant.stays e));
   later = omega (arith, c.in_ok-put_line.ensures.cause.later);
