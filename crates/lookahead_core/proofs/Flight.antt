@@ -1,4 +1,4 @@
-use Rattle.std.proofs.Common.{◌≡◌, ℕ, zero, suc, ◌+◌, ◌-◌, ◌<◌, ◌≤◌, Bool, true, false, cond, not, ◌==◌, nat_lt, nat_le, List, [], ◌∷◌, ◌++◌, map, filter, All, refl, sym, ◌∙◌, ap, arith, append-nil}
+use Rattle.std.proofs.Common.{◌≡◌, ℕ, zero, suc, ◌+◌, ◌-◌, ◌<◌, ◌≤◌, Bool, true, false, cond, not, ◌==◌, nat_lt, nat_le, List, [], ◌∷◌, ◌++◌, map, filter, All, refl, ◌∙◌, ap, arith, append-nil}
 use Rattle.std.proofs.lemmas.List.Elements.{filter-append, filter_passes, All-weaker, All-filter, All-nil, All-append, All-map}
 use Rattle.std.proofs.lemmas.Bool.Decides.{nat_tests}
 use Rattle.lookahead_core.specs.Flying.{stamped, sent_below, flying}
@@ -84,7 +84,7 @@ more_frames left delay next b h =
 pub flying_late : (left : ℕ → List Bytes) (delay next t : ℕ) → All (λ (f : ℕ × Bytes). next ≤ f.0 + delay) (flying left delay next t)
 flying_late left delay next t =
     All-weaker (λ (f : ℕ × Bytes). nat_le next (f.0 + delay) ≡ true) (λ (f : ℕ × Bytes). next ≤ f.0 + delay) (λ f h. is_le (f.0 + delay) h) (flying left delay next t)
-      (filter_passes (λ (f : ℕ × Bytes). nat_le next (f.0 + delay)) (sent_below left t))
+    (filter_passes (λ (f : ℕ × Bytes). nat_le next (f.0 + delay)) (sent_below left t))
   where
     is_le : (a : ℕ) → nat_le next a ≡ true → next ≤ a
     is_le a h = grind (arith, nat_tests)
@@ -94,7 +94,7 @@ sent_early left n zero le = All-nil _
 sent_early left n (suc t) le =
     let this : t ≤ n = omega arith in
     All-append (λ (f : ℕ × Bytes). f.0 ≤ n) (sent_below left t) (stamped t (left t)) (sent_early left n t (omega arith))
-      (All-map (λ (f : ℕ × Bytes). f.0 ≤ n) (λ (f : Bytes). (t, f)) (left t) (λ k d lt. this))
+    (All-map (λ (f : ℕ × Bytes). f.0 ≤ n) (λ (f : Bytes). (t, f)) (left t) (λ k d lt. this))
 
 pub flying_early : (left : ℕ → List Bytes) (delay next n t : ℕ) → t ≤ n → All (λ (f : ℕ × Bytes). f.0 ≤ n) (flying left delay next t)
 flying_early left delay next n t le = All-filter (λ (f : ℕ × Bytes). nat_le next (f.0 + delay)) (λ (f : ℕ × Bytes). f.0 ≤ n) (sent_below left t) (sent_early left n t (omega arith))

@@ -1,18 +1,16 @@
-use Rattle.std.proofs.Common.{◌≡◌, ◌≢◌, ℕ, zero, suc, ◌+◌, ◌-◌, ◌<◌, ◌≤◌, ◌^◌, Bool, true, false, cond, not, ◌==◌, nat_lt, nat_le, List, [], ◌∷◌, ◌++◌, map, filter, length, get_or, slice_get, slice_set, Some, All, ◌⊎◌, refl, sym, ◌∙◌, ap, subst, arith, inl, inr, add-one}
+use Rattle.std.proofs.Common.{◌≡◌, ◌≢◌, ℕ, zero, suc, ◌+◌, ◌-◌, ◌<◌, ◌≤◌, ◌^◌, Bool, true, false, cond, ◌==◌, nat_lt, List, [], ◌∷◌, ◌++◌, map, get_or, slice_get, slice_set, Some, All, ◌⊎◌, refl, sym, ◌∙◌, ap, subst, arith, inl, inr, add-one}
 use Rattle.std.proofs.lemmas.List.Elements.{All-head, All-tail, All-map}
 use Rattle.std.proofs.lemmas.Bool.Decides.{nat_tests, eqb_tells}
-use Rattle.std.specs.List.{range_with_len}
 use Rattle.flight_line.specs.InFlight.{due_at}
 use Rattle.lookahead_core.specs.Events.{HasBegun, HasStepped, HasEnded}
-use Rattle.lookahead_core.specs.Flying.{stamped, sent_below, flying, left_in}
-use Rattle.lookahead_core.specs.Links.{without_due, pulled, sent, all_brought, lists_brought}
+use Rattle.lookahead_core.specs.Flying.{left_in}
+use Rattle.lookahead_core.specs.Links.{pulled, sent, all_brought, lists_brought}
 use Rattle.lookahead_core.specs.Lists.{list_at}
-use Rattle.lookahead_core.specs.Motion.{Motion, Bytes, Clock, Running, Idle, steps, cost}
-use Rattle.lookahead_core.specs.Seats.{done_of, next_of, next_tick, place}
+use Rattle.lookahead_core.specs.Motion.{Motion, Bytes, Clock, steps}
+use Rattle.lookahead_core.specs.Seats.{done_of, next_of, next_tick}
 use Rattle.lookahead_core.specs.Stands.{LinkStands, SeatStands, Stands}
-use Rattle.lookahead_core.specs.Synchronous.{Setup, Moment, sys, after, begun, run_out, arrivals, arrived, brought, leads_to}
+use Rattle.lookahead_core.specs.Synchronous.{Setup, sys, after, begun, run_out, arrivals, arrived, brought, leads_to}
 use Rattle.lookahead_core.specs.declared.link.Link.{Link}
-use Rattle.lookahead_core.specs.declared.wire.Wire.{Wire}
 use Rattle.lookahead_core.specs.declared.seat.Seat.{Seat}
 use Rattle.lookahead_core.proofs.Flight.{due_frames, kept_frames, more_frames}
 use Rattle.lookahead_core.proofs.Seats.{get_set_same, get_set_other, read_set_same, read_set_other, read_set_kept, read_at, length_set}

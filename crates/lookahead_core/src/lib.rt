@@ -21,3 +21,6 @@ pub use ports::Ports;
 pub use stop::{Advanced, Stop};
 pub use whole::Core;
 pub use wire::Wire;
+
+#[cfg(test)]
+mod tests;

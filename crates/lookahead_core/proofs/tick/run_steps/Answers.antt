@@ -1,5 +1,5 @@
 use Rattle.std.proofs.Common.{◌≡◌, ℕ, ◌+◌, ◌<◌, ◌≤◌, ◌∙◌, ap, sym, add-one, arith, ◌-◌}
-use Rattle.lookahead_core.specs.Motion.{Motion, Running, steps, step_cost, cost}
+use Rattle.lookahead_core.specs.Motion.{Motion, steps, step_cost, cost}
 use Rattle.lookahead_core.proofs.tick.run_steps.Goals as goal
 
 one_more : {S : Type 0} (m : Motion S) (s t u : S) (k : ℕ) → t ≡ steps m k s → u ≡ m.step t → u ≡ steps m (k + 1) s
