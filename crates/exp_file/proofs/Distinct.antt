@@ -1,15 +1,15 @@
 -- What stays right as one more item is put at the end: names, disks of a guest, ends at a nic.
-use Rattle.std.proofs.Common.{◌≡◌, ◌==◌, ℕ, ◌≤◌, ◌<◌, ◌+◌, ◌&&◌, ◌||◌, Bool, true, false, List, [], ◌∷◌, ◌++◌, map, cond, subst, sym, refl, ap, ◌∙◌, arith}
+use Rattle.std.proofs.Common.{◌≡◌, ◌==◌, ℕ, ◌≤◌, ◌<◌, ◌+◌, ◌&&◌, ◌||◌, Bool, true, false, List, [], ◌∷◌, ◌++◌, map, cond, subst, sym, refl, ◌∙◌, arith}
 use Rattle.std.proofs.lemmas.Bool.Decides.{nat_tests}
 use Rattle.std.proofs.lemmas.List.Sums.{sum_by-append, sum_by-cons}
-use Rattle.std.specs.List.{IsDistinct, AllByRecursion, list_any, count_by, sum_by}
+use Rattle.std.specs.List.{IsDistinct, AllByRecursion, list_any, count_by}
 use Rattle.std.specs.Str.{bytes_eq}
 use Rattle.exp_file.specs.declared.guest_spec.GuestSpec.{GuestSpec}
 use Rattle.exp_file.specs.declared.disk_spec.DiskSpec.{DiskSpec}
 use Rattle.exp_file.specs.declared.link_spec.LinkSpec.{LinkSpec}
 use Rattle.exp_file.specs.Tables.{is_named}
 use Rattle.exp_file.specs.Disks.{disks_of}
-use Rattle.exp_file.specs.Links.{is_used, ends_at, has_end}
+use Rattle.exp_file.specs.Links.{is_used, ends_at}
 use Rattle.exp_file.specs.WellFormed.{IsFree}
 
 or_left : (a b : Bool) → (a || b) ≡ false → a ≡ false

@@ -7,3 +7,4 @@ pub mod Disks
 pub mod Links
 pub mod Reading
 pub mod WellFormed
+pub mod Unknown

@@ -1,5 +1,5 @@
 -- The links of an experiment file.
-use Rattle.std.specs.Prelude.{◌==◌, ℕ, ◌&&◌, ◌||◌, ◌+◌, slice_get, nat_lt, List, [], ◌∷◌, length, Option, Some, None, Result, Ok, Err, Bool, false, codes, if◌then◌else◌}
+use Rattle.std.specs.Prelude.{◌==◌, ℕ, ◌&&◌, ◌||◌, ◌+◌, slice_get, nat_lt, List, length, Option, Some, None, Result, Ok, Err, Bool, false, codes, if◌then◌else◌}
 use Rattle.std.specs.List.{list_any, count_by}
 use Rattle.toml.specs.Data.{Data}
 use Rattle.exp_file.specs.declared.exp_fault.ExpFault.{ExpFault}

@@ -114,10 +114,14 @@ maybe_text p key form = at_key p key (text_in (has_form form) (get_member key p.
 unfoldable pub multiple : Place → List ℕ → ℕ → ℕ → Result (Unit {0}) ExpFault
 multiple p key n of = if n % of == 0 then Ok tt else Err (fault_at p key Range)
 
--- the first key that is none of these
+-- whether a key is one of these
+abbrev pub is_among : List (List ℕ) → List ℕ → Bool
+is_among keys k = list_any (λ x. bytes_eq x k) keys
+
+-- the first key of a table that is none of these
 abbrev pub first_unknown : List (List ℕ) → Members → Option (List ℕ)
 first_unknown keys no_members = None
-first_unknown keys (member k d ms) = if list_any (λ x. bytes_eq x k) keys then first_unknown keys ms else Some k
+first_unknown keys (member k d ms) = if is_among keys k then first_unknown keys ms else Some k
 
 abbrev pub known_or : Place → Option (List ℕ) → Result (Unit {0}) ExpFault
 known_or p None = Ok tt

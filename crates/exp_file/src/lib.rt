@@ -16,9 +16,9 @@ mod rows;
 mod section;
 mod slot_spec;
 mod slots;
-
 #[cfg(test)]
 mod tests;
+mod unknown;
 
 pub use disk_spec::DiskSpec;
 pub use exp_fault::{ExpErr, ExpFault};
@@ -29,3 +29,4 @@ pub use link_spec::LinkSpec;
 pub use read::read_experiment;
 pub use section::Section;
 pub use slot_spec::SlotSpec;
+pub use unknown::unknown_key;

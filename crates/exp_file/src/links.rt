@@ -168,11 +168,7 @@ fn link_ends(
 }
 
 #[tactic(auto, unfolding(crate::specs::Links::link_step))]
-fn link_step(
-    guests: &[GuestSpec],
-    done: &[LinkSpec],
-    value: &Value,
-) -> Result<LinkSpec, ExpErr>
+fn link_step(guests: &[GuestSpec], done: &[LinkSpec], value: &Value) -> Result<LinkSpec, ExpErr>
     requires guests { length guests.now ≤ 32 }
     requires room { length done.now < 64 }
     ensures given { Gives result (link_step guests.now done.now (view value.now)) }

@@ -14,6 +14,7 @@ use crate::exp_why::ExpWhy;
 use crate::form::Form;
 use crate::guest_spec::Format;
 use crate::section::Section;
+use crate::unknown::unknown_key;
 use std::alloc::Global;
 use tb_base::{Label, Name};
 use toml::{Table, Value};
@@ -98,36 +99,6 @@ fn text_at<'a>(table: &'a Table, key: &str, form: Form) -> Result<Option<&'a str
     }
 }
 
-#[tactic(auto, unfolding(crate::specs::Rows::keys_of))]
-fn keys_of(section: Section) -> &'static [&'static str]
-    ensures { map (λ k. k.now) result.now ≡ keys_of section }
-{
-    match section {
-        Section::Top => &["version", "factor", "slot", "guest", "disk", "link"],
-        Section::Slot => &["capacity"],
-        Section::Guest => &["name", "image", "format", "ram", "rate", "nics", "slot"],
-        Section::Disk => &["guest", "sectors", "image", "base", "per_sector", "seek_num", "seek_den"],
-        Section::Link => &["a", "a_nic", "b", "b_nic", "bandwidth", "delay", "queue"],
-    }
-}
-
-fn is_among(keys: &[&str], key: &str) -> bool
-    ensures { result ≡ list_any (λ k. bytes_eq k.now key.now) keys.now }
-{
-    keys.iter().any(|k| *k == key)
-}
-
-fn first_unknown<'a>(table: &'a Table, keys: &[&str]) -> Option<&'a str>
-    ensures { option_map (λ s. s.now) result ≡ first_unknown (map (λ k. k.now) keys.now) (table_view table.now) }
-{
-    for (key, _) in table {
-        if !is_among(keys, key.as_str()) {
-            return Some(key.as_str());
-        }
-    }
-    None
-}
-
 fn copy_of(alloc: Global, t: &str) -> Result<Name, ExpErr>
     requires { IsNameLength (length t.now) }
     ensures given { Gives result (Ok t.now) }
@@ -166,7 +137,13 @@ impl Row<'_> {
 
     /// The number at a key, or what it is where the table has no such key.
     #[tactic(auto, unfolding(crate::specs::Rows::number_or))]
-    pub(crate) fn number_or(&self, key: &str, low: u64, high: u64, without: u64) -> Result<u64, ExpErr>
+    pub(crate) fn number_or(
+        &self,
+        key: &str,
+        low: u64,
+        high: u64,
+        without: u64,
+    ) -> Result<u64, ExpErr>
         requires low { low ≤ without }
         requires high { without ≤ high }
         ensures given { Gives result (number_or (place self.now.section self.now.index self.now.table.now) key.now low high without) }
@@ -249,7 +226,12 @@ impl Row<'_> {
 
     /// The name at a key, if the table has it.
     #[tactic(auto, unfolding(crate::specs::Rows::maybe_text))]
-    pub(crate) fn maybe_name(&self, alloc: Global, key: &str, form: Form) -> Result<Option<Name>, ExpErr>
+    pub(crate) fn maybe_name(
+        &self,
+        alloc: Global,
+        key: &str,
+        form: Form,
+    ) -> Result<Option<Name>, ExpErr>
         requires { IsNameForm form }
         ensures given { Gives result (maybe_text (place self.now.section self.now.index self.now.table.now) key.now form) }
         ensures form { IfOk result (λ o. IfSome o (λ t. has_form form t ≡ true)) }
@@ -269,7 +251,7 @@ impl Row<'_> {
     pub(crate) fn known(&self) -> Result<(), ExpErr>
         ensures { Gives result (known (place self.now.section self.now.index self.now.table.now)) }
     {
-        match first_unknown(self.table, keys_of(self.section)) {
+        match unknown_key(self.section, self.table) {
             None => Ok(()),
             Some(key) => Err(self.fault(key, ExpWhy::Unknown)),
         }
