@@ -93,3 +93,8 @@ pub stands_start : (f g : Bool) (a b : Option (List ℕ)) (h : Head) → f ≡ f
 unfolding journal_text
 stands_start false g a b h e p = subst (λ (z : List ℕ). Stands g a b z) (sym (append-nil (head_line h))) (p a [] (takes_none a))
 stands_start true g a b h e p = absurd (cc)
+
+-- what was taken is in any case a prefix of the text
+pub stands_part : (f : Bool) (before now : Option (List ℕ)) (text : List ℕ) → Stands f before now text → TakesPart before now text
+stands_part false before now text s = (text, record { rest = []; whole = sym (append-nil text) }, s)
+stands_part true before now text s = s
