@@ -1,5 +1,5 @@
 -- The least factor, slot by slot, and the first slot that does not fit.
-use Rattle.std.proofs.Common.{◌≡◌, ◌==◌, ℕ, zero, suc, ◌<◌, ◌≤◌, ◌+◌, ◌*◌, ◌-◌, Bool, true, false, cond, List, [], ◌∷◌, length, Option, Some, None, option_map, nat_lt, length-append, inl, inr, ◌⊎◌, refl, sym, ap, ◌∙◌, arith, subst}
+use Rattle.std.proofs.Common.{◌≡◌, ℕ, suc, ◌<◌, ◌≤◌, ◌+◌, ◌*◌, ◌-◌, Bool, true, false, cond, List, ◌∷◌, length, Some, None, option_map, nat_lt, inl, inr, ◌⊎◌, refl, sym, ap, ◌∙◌, arith, subst}
 use Rattle.std.proofs.lemmas.Bool.{cases_lt}
 use Rattle.std.proofs.lemmas.Bool.Decides.{nat_tests}
 use Rattle.std.proofs.lemmas.Grind.{div_ceil_times}
@@ -10,7 +10,7 @@ use Rattle.std.specs.List.{find, range_with_len}
 use Rattle.exp_file.specs.declared.experiment.Experiment.{Experiment}
 use Rattle.host_plan.specs.declared.least.Least.{Least}
 use Rattle.host_plan.specs.declared.overload.Overload.{Overload}
-use Rattle.host_plan.specs.Fits.{need, have, capacity, FitsAt, IsLeast, is_over, overload_at, first_overload}
+use Rattle.host_plan.specs.Fits.{need, have, capacity, IsLeast, is_over, overload_at, first_overload}
 
 range_more : (s n m : ℕ) → n - s ≡ suc m → n - (s + 1) ≡ m → range_with_len s (n - s) ≡ s ∷ range_with_len (s + 1) (n - (s + 1))
 range_more s n m e f = ap (range_with_len s) e ∙ ap (λ z. s ∷ range_with_len (s + 1) z) (sym f)
@@ -34,9 +34,9 @@ pub record IsLeastBefore (e : Experiment) (p : List ℕ) (i : ℕ) (l : Least) :
 
 pub lt_or_is : (s i : ℕ) → s < i + 1 → (s < i) ⊎ (s ≡ i)
 lt_or_is s i h = elim (cases_lt s i) as (λ _. (s < i) ⊎ (s ≡ i)) [
-  inl low ↦ inl low
+  | inl low ↦ inl low
   | inr high ↦ inr (omega arith)
-  ]
+]
 
 mul_up : (a m n : ℕ) → m ≤ n → a * m ≤ a * n
 mul_up a m n h = mul-le a m a n (omega arith) h
@@ -57,8 +57,8 @@ pub least_raised : (e : Experiment) (p : List ℕ) (i f : ℕ) (l : Least) → I
 least_raised e p i f l so more fits tight = record {
   some = omega arith;
   fits = λ s h. elim (lt_or_is s i h) as (λ _. need e p s ≤ capacity e s * f) [
-    inl low ↦ let old = so.fits s low in let up = mul_up (capacity e s) l.factor f (omega arith) in omega (arith, old, up)
-  | inr same ↦ subst (λ z. need e p z ≤ capacity e z * f) (sym same) fits
+    | inl low ↦ let old = so.fits s low in let up = mul_up (capacity e s) l.factor f (omega arith) in omega (arith, old, up)
+    | inr same ↦ subst (λ z. need e p z ≤ capacity e z * f) (sym same) fits
   ];
   slot = omega arith;
   one = λ h. absurd (let some = so.some in omega (arith, some, more, h));
@@ -71,8 +71,8 @@ pub least_kept : (e : Experiment) (p : List ℕ) (i f : ℕ) (l : Least) → IsL
 least_kept e p i f l so low fits = record {
   some = so.some;
   fits = λ s h. elim (lt_or_is s i h) as (λ _. need e p s ≤ capacity e s * l.factor) [
-    inl under ↦ so.fits s under
-  | inr same ↦ let up = mul_up (capacity e i) f l.factor low in subst (λ z. need e p z ≤ capacity e z * l.factor) (sym same) (omega (arith, fits, up))
+    | inl under ↦ so.fits s under
+    | inr same ↦ let up = mul_up (capacity e i) f l.factor low in subst (λ z. need e p z ≤ capacity e z * l.factor) (sym same) (omega (arith, fits, up))
   ];
   slot = let old = so.slot in omega (arith, old);
   one = so.one;
@@ -85,8 +85,8 @@ least_all e p n l some all so = record {
   some = so.some;
   fits = λ s h. so.fits s (omega (arith, all, h));
   least = λ f one fits. elim (cases_lt f l.factor) as (λ _. l.factor ≤ f) [
-    inr high ↦ high
-  | inl low ↦ absurd (
+    | inr high ↦ high
+    | inl low ↦ absurd (
         let tight = so.tight (omega (arith, one, low)) in
         let fit = fits l.slot (let under = tight.0 in omega (arith, under, all)) in
         let up = mul_up (capacity e l.slot) f (l.factor - 1) (omega (arith, low)) in
@@ -94,8 +94,8 @@ least_all e p n l some all so = record {
         omega (arith, fit, up, over))
   ];
   slot = elim (cases_lt 1 l.factor) as (λ _. l.slot < length e.slots.items) [
-    inl high ↦ let under = (so.tight high).0 in omega (arith, under, all)
-  | inr low ↦ let first = so.one (let high = so.some in omega (arith, high, low)) in omega (arith, first, some, all)
+    | inl high ↦ let under = (so.tight high).0 in omega (arith, under, all)
+    | inr low ↦ let first = so.one (let high = so.some in omega (arith, high, low)) in omega (arith, first, some, all)
   ];
   one = so.one;
   tight = λ h. (so.tight h).1;
@@ -144,9 +144,9 @@ none_over e p s h rest = ap (option_map (overload_at e p)) (sym rest ∙ find_en
 
 pub fits_more : (e : Experiment) (p : List ℕ) (i : ℕ) → ((s : ℕ) → s < i → need e p s ≤ have e s) → need e p i ≤ have e i → (s : ℕ) → s < i + 1 → need e p s ≤ have e s
 fits_more e p i below here s h = elim (lt_or_is s i h) as (λ _. need e p s ≤ have e s) [
-    inl low ↦ below s low
+  | inl low ↦ below s low
   | inr same ↦ subst (λ z. need e p z ≤ have e z) (sym same) here
-  ]
+]
 
 -- the factor that a slot needs, and what it makes of the least one so far
 ceil_of : (n y m k : ℕ) → n ≡ m → y ≡ k → div_ceil n y ≡ div_ceil m k

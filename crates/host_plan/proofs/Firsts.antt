@@ -1,10 +1,10 @@
 -- The first that is best, of what was looked at so far.
-use Rattle.std.proofs.Common.{◌≡◌, ◌==◌, ℕ, ◌<◌, ◌≤◌, ◌+◌, ◌&&◌, ◌||◌, not, nat_le, nat_lt, Bool, true, false, cond, All, List, [], ◌∷◌, length, get_or, Option, Some, None, IfSome, IfNone, refl, sym, ap, ◌∙◌, arith, subst}
+use Rattle.std.proofs.Common.{◌≡◌, ℕ, ◌<◌, ◌≤◌, ◌+◌, ◌&&◌, ◌||◌, not, nat_le, Bool, true, false, List, length, get_or, Option, Some, None, IfSome, IfNone, refl, sym, ap, ◌∙◌, arith, subst}
 use Rattle.std.proofs.lemmas.Bool.{false≢true}
 use Rattle.std.proofs.lemmas.Bool.Decides.{nat_tests}
 use Rattle.std.proofs.lemmas.List.{get_or_default}
 use Rattle.std.proofs.lemmas.List.Sums.{position_or_len_is, AllPass-from_list_all, list_all-from_AllPass}
-use Rattle.std.specs.List.{position_or_len, list_all, AllPass}
+use Rattle.std.specs.List.{position_or_len, list_all}
 use Rattle.host_plan.specs.declared.load.Load.{Load}
 use Rattle.host_plan.specs.declared.seat.Seat.{Seat}
 use Rattle.host_plan.specs.Placing.{is_free, is_next, next, has_room, first_room, is_roomiest}

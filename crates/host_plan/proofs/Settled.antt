@@ -1,6 +1,6 @@
 -- What one guest more placed changes.
-use Rattle.std.proofs.Common.{◌≡◌, ◌≢◌, ◌==◌, ℕ, ◌<◌, ◌≤◌, ◌+◌, ◌-◌, suc, ◌&&◌, not, Bool, true, false, cond, All, List, [], ◌∷◌, ◌++◌, length, map, take, drop, get_or, set, slice_get, Option, Some, None, IfSome, ◌⊎◌, inl, inr, refl, sym, ap, ◌∙◌, arith, subst}
-use Rattle.std.proofs.lemmas.Bool.{false≢true, cases_order, and_parts}
+use Rattle.std.proofs.Common.{◌≡◌, ◌≢◌, ◌==◌, ℕ, ◌<◌, ◌≤◌, ◌+◌, ◌-◌, suc, ◌&&◌, Bool, true, false, cond, All, List, [], ◌∷◌, ◌++◌, length, map, take, drop, get_or, set, slice_get, Option, Some, None, IfSome, ◌⊎◌, inl, inr, refl, sym, ap, ◌∙◌, arith, subst}
+use Rattle.std.proofs.lemmas.Bool.{false≢true, cases_order}
 use Rattle.std.proofs.lemmas.Bool.Decides.{nat_tests}
 use Rattle.std.proofs.lemmas.List.{same_lists, get_or-set_same, get_or-set_other, length-set, length-map, take_at}
 use Rattle.std.proofs.lemmas.List.Elements.{All-map}
@@ -8,7 +8,7 @@ use Rattle.std.proofs.lemmas.Nat.{mul-le}
 use Rattle.std.proofs.lemmas.Option.{slice_get-get_or}
 use Rattle.std.proofs.lemmas.List.FromFn.{map-range_with_len_more, length-map-range_with_len, get_or-map-range_with_len}
 use Rattle.std.proofs.lemmas.List.Sums.{passes_at_first}
-use Rattle.std.specs.List.{range_with_len, list_all}
+use Rattle.std.specs.List.{range_with_len}
 use Rattle.std.specs.Option.{is_none, unwrap_or}
 use Rattle.exp_file.specs.declared.experiment.Experiment.{Experiment}
 use Rattle.exp_file.specs.declared.slot_spec.SlotSpec.{SlotSpec}
@@ -65,9 +65,9 @@ need_there seats i s k other h free =
 
 is_or_not : (k s : ℕ) → (k ≡ s) ⊎ (k ≢ s)
 is_or_not k s = elim (cases_order k s) as (λ _. (k ≡ s) ⊎ (k ≢ s)) [
-  inl same ↦ inl same
+  | inl same ↦ inl same
   | inr rest ↦ inr (elim rest as (λ _. k ≢ s) [ inl low ↦ λ h. absurd (omega (arith, low, h)) | inr high ↦ λ h. absurd (omega (arith, high, h)) ])
-  ]
+]
 
 -- the loads with one guest more on a slot
 abbrev pub loaded : List Load → ℕ → ℕ → List Load
@@ -82,7 +82,7 @@ loads-len e seats ls same = ap length same ∙ length-map-range_with_len (load_o
 loaded_at : (e : Experiment) (seats : List Seat) (ls : List Load) (i s rate k : ℕ) (d : Load) → ls ≡ loads_of e seats → i < length seats → (seat_at seats i).home ≡ None → rate ≡ (seat_at seats i).rate
     → s < length ls → k < length e.slots.items → get_or (loaded ls s rate) k d ≡ load_of e (set seats i (seated_at (seat_at seats i) s)) k
 loaded_at e seats ls i s rate k d same h free r low within = elim (is_or_not k s) as (λ _. get_or (loaded ls s rate) k d ≡ load_of e (set seats i (seated_at (seat_at seats i) s)) k) [
-  inl here ↦
+  | inl here ↦
       let old = load_at-is e seats ls s (record { need = 0; have = 0 }) same (omega (arith, within, here)) in
       let new : need_so_far seats s + rate ≡ need_so_far (set seats i (seated_at (seat_at seats i) s)) s = ap (λ z. need_so_far seats s + z) r ∙ sym (need_here seats i s h free) in
       ap (λ z. get_or (loaded ls s rate) z d) here ∙ get_or-set_same ls s _ d low
@@ -92,7 +92,7 @@ loaded_at e seats ls i s rate k d same h free r low within = elim (is_or_not k s
   | inr other ↦
       get_or-set_other ls s k _ d other ∙ load_at-is e seats ls k d same within
       ∙ ap (λ z. record { need = z; have = have e k }) (sym (need_there seats i s k other h free))
-  ]
+]
 
 pub loaded_all : (e : Experiment) (seats : List Seat) (ls : List Load) (i s rate : ℕ) → ls ≡ loads_of e seats → i < length seats → (seat_at seats i).home ≡ None → rate ≡ (seat_at seats i).rate
     → s < length ls → loaded ls s rate ≡ loads_of e (set seats i (seated_at (seat_at seats i) s))
@@ -101,8 +101,8 @@ loaded_all e seats ls i s rate same h free r low =
     let len : length (loaded ls s rate) ≡ length e.slots.items = length-set ls s _ ∙ loads-len e seats ls same in
     same_lists (loaded ls s rate) (loads_of e new) (len ∙ sym (length-map-range_with_len (load_of e new) 0 (length e.slots.items)))
     (λ k d under.
-        let within : k < length e.slots.items = omega (arith, under, len) in
-        loaded_at e seats ls i s rate k d same h free r low within ∙ sym (get_or-map-range_with_len (load_of e new) 0 (length e.slots.items) k k d within (omega arith)))
+    let within : k < length e.slots.items = omega (arith, under, len) in
+    loaded_at e seats ls i s rate k d same h free r low within ∙ sym (get_or-map-range_with_len (load_of e new) 0 (length e.slots.items) k k d within (omega arith)))
 
 pub pushed_load : (e : Experiment) (seats : List Seat) (ls next : List Load) (s : ℕ) (l : Load) → ls ≡ map (load_of e seats) (range_with_len 0 s) → l.need ≡ need_so_far seats s → l.have ≡ have e s
     → next ≡ ls ++ l ∷ [] → next ≡ map (load_of e seats) (range_with_len 0 (s + 1))
@@ -114,9 +114,9 @@ pushed_load e seats ls next s l before n v pushed =
 -- the guests of an experiment as seats, and the slots under them
 pub seats_bounded : (e : Experiment) (seats : List Seat) → IsWellFormed e → seats ≡ map seat_of e.guests.items → AreSeats seats
 seats_bounded e seats well same = subst AreSeats (sym same) (record {
-      few = let len = length-map e.guests.items seat_of in let few = well.guests_high in omega (arith, len, few);
-      rates = All-map (λ (x : Seat). x.rate ≤ 100000) seat_of e.guests.items (λ k d h. (well.guests k d h).rate_high);
-    })
+  few = let len = length-map e.guests.items seat_of in let few = well.guests_high in omega (arith, len, few);
+  rates = All-map (λ (x : Seat). x.rate ≤ 100000) seat_of e.guests.items (λ k d h. (well.guests k d h).rate_high);
+})
 
 capacity-le : (xs : List SlotSpec) (k : ℕ) → All IsSlot xs → k < length xs → capacity_if (slice_get xs k) ≤ 1000000
 capacity-le xs k all h = subst (λ z. capacity_if z ≤ 1000000) (sym (slice_get-get_or xs k (record { capacity = 0 }) h)) (all k (record { capacity = 0 }) h).capacity_high
@@ -206,7 +206,7 @@ pub settling_step : (e : Experiment) (seats old new after : List Seat) (ls full 
 settling_step e seats old new after ls full more loaded k so h same same_full settles loads bounded len homes is_new is_more =
     let full_is : full ≡ loads_of e old = same_full ∙ so.full ∙ ap (loads_of e) (sym same) in
     let next : IsSettling e new more (k + 1) = settling_goes e seats new ls more k so h (settles ∙ ap (λ z. settle z old) same_full ∙ ap (settle ls) same) (loads e full_is) bounded (len ∙ ap length same)
-        (homes (length e.slots.items) (sym (loads-len e old full full_is)) (subst (λ z. All (λ (x : Seat). IfSome x.home (λ s. s < length e.slots.items)) z) (sym same) so.homes)) in
+    (homes (length e.slots.items) (sym (loads-len e old full full_is)) (subst (λ z. All (λ (x : Seat). IfSome x.home (λ s. s < length e.slots.items)) z) (sym same) so.homes)) in
     subst (λ z. IsSettling e z loaded (k + 1)) (sym is_new) (subst (λ z. IsSettling e new z (k + 1)) (sym is_more) next)
 
 pub whole : {X : Type 0} (n : ℕ) (new old : List X) → n ≡ length old → length new ≡ length old → take n (new ++ drop (length new) old) ≡ new

@@ -1,12 +1,12 @@
 -- Sums of rates, one guest at a time.
-use Rattle.std.proofs.Common.{◌≡◌, ◌==◌, ℕ, ◌<◌, ◌≤◌, ◌+◌, ◌*◌, Bool, true, false, cond, All, List, [], ◌∷◌, ◌++◌, length, map, drop, take, get_or, set, refl, sym, ap, ◌∙◌, arith, subst}
+use Rattle.std.proofs.Common.{◌≡◌, ◌==◌, ℕ, ◌<◌, ◌≤◌, ◌+◌, ◌*◌, Bool, true, false, cond, All, List, [], ◌∷◌, length, map, drop, get_or, set, refl, ap, ◌∙◌, arith}
 use Rattle.std.proofs.lemmas.List.{drop_more}
 use Rattle.std.proofs.lemmas.List.Sums.{sum_by-cons, sum_by-set, sum_by-le}
 use Rattle.std.specs.List.{sum, sum_by, filter, zip}
 use Rattle.exp_file.specs.declared.guest_spec.GuestSpec.{GuestSpec}
 use Rattle.host_plan.specs.declared.seat.Seat.{Seat}
 use Rattle.host_plan.specs.Fits.{rates_on}
-use Rattle.host_plan.specs.Placing.{is_at, seat_of, need_so_far}
+use Rattle.host_plan.specs.Placing.{is_at, need_so_far}
 
 -- the sum of a filtered list, one item at a time
 at_test : {X : Type 0} (t : Bool) (f : X → ℕ) (x : X) (ys : List X) → sum (map f (cond t (x ∷ ys) ys)) ≡ cond t (f x) 0 + sum (map f ys)

@@ -1,5 +1,5 @@
 -- What guests need of the slots that they stand on, and whether a placement fits. A placement is a list of slots, one for each guest.
-use Rattle.std.specs.Prelude.{◌≡◌, ◌==◌, ℕ, ◌<◌, ◌≤◌, ◌*◌, ◌-◌, nat_lt, Bool, List, [], map, length, All, Option, Some, None, Result, Ok, Err, option_map, slice_get}
+use Rattle.std.specs.Prelude.{◌≡◌, ◌==◌, ℕ, ◌<◌, ◌≤◌, ◌*◌, ◌-◌, nat_lt, Bool, List, map, length, All, Option, Some, None, Result, Ok, Err, option_map, slice_get}
 use Rattle.std.specs.List.{filter, zip, sum, find, range_with_len}
 use Rattle.exp_file.specs.declared.experiment.Experiment.{Experiment}
 use Rattle.exp_file.specs.declared.guest_spec.GuestSpec.{GuestSpec}

@@ -1,6 +1,6 @@
-use Rattle.std.proofs.Common.{arith, ◌≤◌, subst}
+use Rattle.std.proofs.Common.{arith, ◌≤◌}
 use Rattle.host_plan.specs.Fits.{need, have}
-use Rattle.host_plan.proofs.Factors.{over_found, over_next, none_over, lt_or_is, fits_more}
+use Rattle.host_plan.proofs.Factors.{over_found, over_next, none_over, fits_more}
 use Rattle.host_plan.proofs.need.check.Goals as goal
 
 pub returns-then-have-need-clause-first : goal.returns-then-have-need-clause-first

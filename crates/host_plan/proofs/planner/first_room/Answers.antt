@@ -1,4 +1,3 @@
-use Rattle.std.proofs.Common.{arith}
 use Rattle.host_plan.proofs.Firsts.{first_found, none_found}
 use Rattle.host_plan.proofs.planner.first_room.Goals as goal
 

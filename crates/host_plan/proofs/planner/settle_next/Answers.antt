@@ -1,4 +1,3 @@
-use Rattle.std.proofs.Common.{arith}
 use Rattle.host_plan.proofs.Settled.{next_free, loaded_all}
 use Rattle.host_plan.proofs.planner.settle_next.Goals as goal
 

@@ -1,8 +1,3 @@
-use Rattle.std.proofs.Common.{◌≡◌, arith, sym, ap, ◌∙◌, map, [], ◌∷◌, ◌++◌}
-use Rattle.std.specs.List.{range_with_len}
-use Rattle.std.proofs.lemmas.List.FromFn.{map-range_with_len_more}
-use Rattle.host_plan.specs.declared.load.Load.{Load}
-use Rattle.host_plan.specs.Placing.{load_of}
 use Rattle.host_plan.proofs.Settled.{pushed_load}
 use Rattle.host_plan.proofs.seats.loads_of.Goals as goal
 
