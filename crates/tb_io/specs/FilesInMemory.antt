@@ -1,5 +1,5 @@
 -- What files in memory hold, and what their reads answer.
-use Rattle.std.specs.Prelude.{ℕ, List, [], ◌∷◌, ◌++◌, length, ◌<◌, Option, None, Some, option_map, Result, Ok, Err, Bool, ◌==◌, nat_lt, if◌then◌else◌}
+use Rattle.std.specs.Prelude.{ℕ, List, [], ◌∷◌, ◌++◌, length, Option, None, Some, option_map, Result, Ok, Err, Bool, ◌==◌, nat_lt, if◌then◌else◌}
 use Rattle.std.specs.List.{list_any}
 use Rattle.std.specs.BTreeMap.{get_by_text}
 use Rattle.tb_io.specs.Causes.{one_more, faults_after}

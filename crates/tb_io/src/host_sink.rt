@@ -1,12 +1,13 @@
 //! A sink over a writer of the host: the trusted edge for what is written.
-ghost use Rattle.std.specs.Prelude.{◌≡◌, is_err, OnOk, OnErr, None};
+ghost use Rattle.std.specs.Prelude.{◌≡◌, [], is_err, OnOk, OnErr};
 ghost use Rattle.tb_io.specs.Causes.{HasCause, faults_after};
 ghost use Rattle.tb_io.specs.Puts.{Takes, TakesPart};
 
 use crate::sink::{PutErr, Sink};
 use std::io::Write;
 
-/// A sink over one of std's writers. Nothing is told of the bytes that the writer took.
+/// A sink over one of std's writers. It tells the bytes that the writer tells, which a writer to
+/// the outside does not.
 #[derive(Drop)]
 pub struct HostSink<W: Write + Drop> {
     to: W,
@@ -24,6 +25,7 @@ impl<W: Write + Drop> HostSink<W> {
     /// Lets the writer hand on what it holds back. A failure is a fault, as one of `put` is.
     pub fn flush(&mut self) -> Result<(), PutErr>
         ensures cause { HasCause (⟦<HostSink<W> as Sink>⟧.faults self.old) (⟦<HostSink<W> as Sink>⟧.faults self.new) result }
+        ensures taken { Takes (⟦<HostSink<W> as Sink>⟧.taken self.old) (⟦<HostSink<W> as Sink>⟧.taken self.new) [] }
         ensures faults { ⟦<HostSink<W> as Sink>⟧.faults self.new ≡ faults_after (⟦<HostSink<W> as Sink>⟧.faults self.old) (is_err result) }
     {
         if self.to.flush().is_ok() {
@@ -35,7 +37,10 @@ impl<W: Write + Drop> HostSink<W> {
 }
 
 /// Writes a piece to its end. Each turn writes at least one byte of it, or it is the last.
-fn write_piece<W: Write>(to: &mut W, piece: &[u8]) -> Result<(), PutErr> {
+fn write_piece<W: Write>(to: &mut W, piece: &[u8]) -> Result<(), PutErr>
+    ensures ok { OnOk result (Takes (W.contents to.old) (W.contents to.new) piece.now) }
+    ensures failed { OnErr result (TakesPart (W.contents to.old) (W.contents to.new) piece.now) }
+{
     let mut rest = piece;
     while !rest.is_empty() {
         match to.write(rest) {
@@ -48,9 +53,7 @@ fn write_piece<W: Write>(to: &mut W, piece: &[u8]) -> Result<(), PutErr> {
 }
 
 impl<W: Write + Drop> Sink for HostSink<W> {
-    ghost use Rattle.std.specs.Prelude.{None};
-
-    ghost taken = { λ _. None };
+    ghost taken = { λ sink. W.contents sink.to };
 
     ghost faults = { λ sink. sink.faults };
 

@@ -69,12 +69,7 @@ impl MemFiles {
 }
 
 /// Counts a failed read of this name, where there is memory to keep the name.
-fn count_fault(
-    alloc: Global,
-    name: &str,
-    faults: &mut u64,
-    fault_name: &mut Vec<u8>,
-) -> ReadErr
+fn count_fault(alloc: Global, name: &str, faults: &mut u64, fault_name: &mut Vec<u8>) -> ReadErr
     ensures answer { result ≢ ReadErr.TooLong }
     ensures faults { faults.new ≡ faults_after faults.old (is_fault result) }
     ensures name { fault_name.new.items ≡ (if is_fault result then name.now else fault_name.old.items) }
