@@ -12,3 +12,6 @@ pub use log::Log;
 pub use rec::Rec;
 pub use view::{View, shown};
 pub use what::What;
+
+#[cfg(test)]
+mod tests;

@@ -1,0 +1,74 @@
+#!/usr/bin/env bash
+# Times 10^8 word loads and stores of guest_ram against the same loop in C, and prints the ratio.
+set -e
+here=$(cd "$(dirname "$0")" && pwd)
+top=$(cd "$here/../.." && pwd)
+work=$(mktemp -d)
+trap 'rm -rf "$work"' EXIT
+
+mkdir -p "$work/crates"
+for crate in tb_base byte_pages guest_ram; do
+    mkdir "$work/crates/$crate"
+    cp -r "$top/crates/$crate/src" "$top/crates/$crate/specs" "$top/crates/$crate/proofs" "$work/crates/$crate/" 2>/dev/null || true
+done
+cat > "$work/crates.txt" <<'LIST'
+tb_base:
+byte_pages:
+guest_ram: tb_base byte_pages
+bench_ram: tb_base byte_pages guest_ram anyhow
+LIST
+mkdir -p "$work/crates/bench_ram/src"
+cat > "$work/crates/bench_ram/src/main.rt" <<'PROGRAM'
+//! 10^8 turns of one word load and one word store.
+#![tactic(auto)]
+
+use guest_ram::Ram;
+use tb_base::Width;
+
+const BASE: u32 = 0x8000_0000;
+const SIZE: u32 = 65536;
+const TURNS: u64 = 100_000_000;
+
+fn main(rt: HostRuntime) -> Result<(), anyhow::Error> {
+    let Ok(mut ram) = Ram::new(rt.alloc(), SIZE) else {
+        return Ok(());
+    };
+    let mut place = 1u32;
+    let mut sum = 0u32;
+    for _ in 0..TURNS {
+        place = place.wrapping_mul(1_664_525).wrapping_add(1_013_904_223);
+        let addr = BASE.wrapping_add((place >> 14) & 0xfffc);
+        let Ok(value) = ram.load(addr, Width::Word) else {
+            return Ok(());
+        };
+        sum = sum.wrapping_add(value).wrapping_add(1);
+        let Ok(()) = ram.store(addr, Width::Word, sum) else {
+            return Ok(());
+        };
+    }
+    println!(rt; "{sum}")?;
+    Ok(())
+}
+PROGRAM
+
+gcc -O2 -o "$work/ram_c" "$here/ram.c"
+(cd "$work/crates/bench_ram" && rt run > "$work/log" 2>&1) || { tail -5 "$work/log"; exit 1; }
+
+# the least time of five runs, in microseconds
+least() {
+    local best="" start end
+    for _ in 1 2 3 4 5; do
+        start=$(date +%s%N)
+        "$1" > "$work/said"
+        end=$(date +%s%N)
+        local took=$(((end - start) / 1000))
+        if [ -z "$best" ] || [ "$took" -lt "$best" ]; then best=$took; fi
+    done
+    echo "$best"
+}
+
+rattle=$(least "$work/crates/bench_ram/out/bench_ram")
+said=$(cat "$work/said")
+c=$(least "$work/ram_c")
+[ "$said" = "$(cat "$work/said")" ] || { echo "the two programs differ"; exit 1; }
+echo "guest_ram $rattle us, C $c us, ratio $(awk "BEGIN { printf \"%.2f\", $rattle / $c }")"

@@ -1,0 +1,5 @@
+//! Want of memory for pages.
+
+/// There was no memory for the pages.
+#[derive(Clone, Copy, Debug, PartialEq, Eq)]
+pub struct NoPage;
