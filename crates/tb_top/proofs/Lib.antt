@@ -1,0 +1,5 @@
+pub mod Complete
+pub mod Ending
+pub mod Images
+pub mod Putting
+pub mod Six

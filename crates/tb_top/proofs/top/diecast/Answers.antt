@@ -1,0 +1,11 @@
+-- A run that nothing hinders comes to its end, or finds no memory.
+use Rattle.std.proofs.Common.{map, string_bytes}
+use Rattle.tb_top.proofs.Complete.{completes, kept}
+use Rattle.tb_top.proofs.top.diecast.Goals as goal
+
+pub returns-clause-complete : goal.returns-clause-complete
+returns-clause-complete g c = λ e may files out.
+    kept c.tell.result c.work-status.result _ c.tell.ensures.same
+    (completes (map string_bytes c.args.words.now) (g.F.Files.held c.args.files.now) (g.F.Files.faults c.args.files.now) (g.F.Files.faults c.work-status.new.files) (g.F.Files.fault_name c.work-status.new.files)
+    (g.O.Sink.taken c.args.out.now) (g.O.Sink.taken c.work-status.new.out) (g.O.Sink.faults c.args.out.now) (g.O.Sink.faults c.work-status.new.out)
+    c.work-status.result e c.work-status.ensures may files out)

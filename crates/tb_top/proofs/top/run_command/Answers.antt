@@ -1,0 +1,19 @@
+-- The experiment is what the bytes that were read say.
+use Rattle.std.proofs.Common.{ℕ, List, Option, sym, ap, ◌∙◌, subst}
+use Rattle.tb_base.specs.declared.limits.TheConstants.{EXPERIMENT_FILE}
+use Rattle.exp_file.specs.Reading.{reading}
+use Rattle.tb_top.specs.Ends.{Ends, world}
+use Rattle.tb_top.specs.Reads.{IsRead}
+use Rattle.tb_top.proofs.top.run_command.Goals as goal
+
+pub returns-in-Ok-read_experiment : goal.returns-in-Ok-read_experiment
+returns-in-Ok-read_experiment g c = λ words command.
+    let name = c.args.command.file.now in
+    let same = c.in-Ok.ensures.held in
+    let read = subst (λ (h : List ℕ → Option (List ℕ)). IsRead (h name) EXPERIMENT_FILE c.in-Ok.bytes) (sym same) c.in-Ok.ensures.answer in
+    let says = ap reading (sym c.as_slice.ensures) ∙ c.in-Ok-read_experiment.ensures.reading in
+    subst
+    (λ (h : List ℕ → Option (List ℕ)).
+    Ends (world words h (g.F.Files.faults c.args.files.now) (g.F.Files.faults c.run_experiment.new.files) (g.F.Files.fault_name c.run_experiment.new.files)
+    (g.O.Sink.taken c.args.out.now) (g.O.Sink.taken c.run_experiment.new.out) (g.O.Sink.faults c.args.out.now) (g.O.Sink.faults c.run_experiment.new.out)) c.run_experiment.result)
+    same (c.run_experiment.ensures words name c.in-Ok.bytes (g.F.Files.faults c.args.files.now) command read says c.in-Ok.ensures.later)

@@ -1,0 +1,64 @@
+-- How the run of an experiment that fits ends.
+use Rattle.std.proofs.Common.{Ok, Err, refl, sym, subst}
+use Rattle.bench_build.specs.Building.{IsBuilding}
+use Rattle.tb_top.specs.declared.run.RunErr.{RunErr}
+use Rattle.tb_top.specs.declared.status.Status.{Status}
+use Rattle.tb_top.specs.Ends.{Ends, world}
+use Rattle.tb_top.proofs.Ending.{asked, ends_load, ends_run, run_status}
+use Rattle.tb_top.proofs.top.run_placed.Goals as goal
+
+pub returns-in-Err-load_images : goal.returns-in-Err-load_images
+returns-in-Err-load_images g c = λ words name b before command read says later.
+    let e = c.args.e.now in
+    let slots = c.args.placement.now.slots.items in
+    let loads = c.in-Err-load_images.ensures.loads slots c.in-Ok.ensures.building in
+    let w =
+    world words (g.F.Files.held c.args.files.now) before (g.F.Files.faults c.load_images.new.files) (g.F.Files.fault_name c.load_images.new.files)
+    (g.O.Sink.taken c.args.out.now) (g.O.Sink.taken c.args.out.now) (g.O.Sink.faults c.args.out.now) (g.O.Sink.faults c.args.out.now) in
+    let k = asked w c.args.host_ticks e slots name b command read says c.requires.placed c.requires.fits in
+    subst (λ (s : Status). Ends w s) (sym c.load_status.ensures)
+    (ends_load w c.args.host_ticks e (g.F.Files.faults c.args.files.now) (λ images. IsBuilding e slots images c.load_images.new.builder) c.in-Err-load_images.fault k refl later loads)
+
+pub returns-in-Ok-run : goal.returns-in-Ok-run
+returns-in-Ok-run g c = λ words name b before command read says later.
+    let e = c.args.e.now in
+    let slots = c.args.placement.now.slots.items in
+    let n = c.args.host_ticks in
+    let loads = c.in-Ok-load_images.ensures.loads slots c.in-Ok.ensures.building in
+    let w =
+    world words (g.F.Files.held c.args.files.now) before (g.F.Files.faults c.load_images.new.files) (g.F.Files.fault_name c.load_images.new.files)
+    (g.O.Sink.taken c.args.out.now) (g.O.Sink.taken c.run.new.out) (g.O.Sink.faults c.args.out.now) (g.O.Sink.faults c.run.new.out) in
+    let k = asked w n e slots name b command read says c.requires.placed c.requires.fits in
+    let stands = c.in-Ok-finish.ensures.stands e slots loads.0 n loads.2 in
+    let plans = c.in-Ok-finish.ensures.plan e slots loads.0 n loads.2 in
+    ends_run w n e slots loads.0 (Ok tt) k c.requires.placed loads.1 (c.in-Ok-run.ensures slots loads.0 stands.0 stands.1 plans)
+
+pub returns-in-Err-NoMemory : goal.returns-in-Err-NoMemory
+returns-in-Err-NoMemory g c = λ words name b before command read says later.
+    let e = c.args.e.now in
+    let slots = c.args.placement.now.slots.items in
+    let n = c.args.host_ticks in
+    let loads = c.in-Ok-load_images.ensures.loads slots c.in-Ok.ensures.building in
+    let w =
+    world words (g.F.Files.held c.args.files.now) before (g.F.Files.faults c.load_images.new.files) (g.F.Files.fault_name c.load_images.new.files)
+    (g.O.Sink.taken c.args.out.now) (g.O.Sink.taken c.run.new.out) (g.O.Sink.faults c.args.out.now) (g.O.Sink.faults c.run.new.out) in
+    let k = asked w n e slots name b command read says c.requires.placed c.requires.fits in
+    let stands = c.in-Ok-finish.ensures.stands e slots loads.0 n loads.2 in
+    let plans = c.in-Ok-finish.ensures.plan e slots loads.0 n loads.2 in
+    subst (λ (x : RunErr). Ends w (run_status (Err x))) c.in-Err-NoMemory.field-0-is
+    (ends_run w n e slots loads.0 (Err c.in-Err-NoMemory.field-0) k c.requires.placed loads.1 (c.in-Err-NoMemory.ensures slots loads.0 stands.0 stands.1 plans))
+
+pub returns-in-Err-WriteFailed : goal.returns-in-Err-WriteFailed
+returns-in-Err-WriteFailed g c = λ words name b before command read says later.
+    let e = c.args.e.now in
+    let slots = c.args.placement.now.slots.items in
+    let n = c.args.host_ticks in
+    let loads = c.in-Ok-load_images.ensures.loads slots c.in-Ok.ensures.building in
+    let w =
+    world words (g.F.Files.held c.args.files.now) before (g.F.Files.faults c.load_images.new.files) (g.F.Files.fault_name c.load_images.new.files)
+    (g.O.Sink.taken c.args.out.now) (g.O.Sink.taken c.run.new.out) (g.O.Sink.faults c.args.out.now) (g.O.Sink.faults c.run.new.out) in
+    let k = asked w n e slots name b command read says c.requires.placed c.requires.fits in
+    let stands = c.in-Ok-finish.ensures.stands e slots loads.0 n loads.2 in
+    let plans = c.in-Ok-finish.ensures.plan e slots loads.0 n loads.2 in
+    subst (λ (x : RunErr). Ends w (run_status (Err x))) c.in-Err-WriteFailed.field-0-is
+    (ends_run w n e slots loads.0 (Err c.in-Err-WriteFailed.field-0) k c.requires.placed loads.1 (c.in-Err-WriteFailed.ensures slots loads.0 stands.0 stands.1 plans))

@@ -1,0 +1,7 @@
+pub mod Ends
+pub mod Fetches
+pub mod Lines
+pub mod Loads
+pub mod Reads
+pub mod Runs
+pub mod Words

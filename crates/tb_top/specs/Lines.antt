@@ -1,0 +1,89 @@
+-- The line of each status.
+use Rattle.std.specs.Prelude.{◌≡◌, ℕ, nat_le, ◌&&◌, Bool, true, false, if◌then◌else◌, List, [], ◌∷◌, ◌++◌, map, Option, codes, MatchBool}
+use Rattle.std.specs.Fmt.{decimal}
+use Rattle.tb_io.specs.Causes.{Rose}
+use Rattle.tb_io.specs.Puts.{Takes}
+use Rattle.exp_file.specs.declared.exp_fault.ExpFault.{ExpFault}
+use Rattle.exp_file.specs.declared.exp_why.ExpWhy.{ExpWhy}
+use Rattle.exp_file.specs.declared.exp_why.ExpWhy.TheVariants.{NotToml, Missing, Unknown, WrongKind, Range, Twice, NoSuchGuest, NicTaken, NicRange, NoGuest, NoSlot, NotBuilt}
+use Rattle.exp_file.specs.declared.section.Section.{Section}
+use Rattle.exp_file.specs.declared.section.Section.TheVariants.{Top, Slot, Guest, Disk, Link}
+use Rattle.bench_build.specs.declared.image_fault.ImageFault.{ImageFault}
+use Rattle.bench_build.specs.declared.image_fault.ImageFault.TheVariants as image
+use Rattle.bench_build.specs.declared.build_fault.BuildFault.{BuildFault}
+use Rattle.bench_build.specs.declared.build_fault.BuildFault.TheVariants as build
+use Rattle.tb_top.specs.declared.words.WordFault.{WordFault}
+use Rattle.tb_top.specs.declared.words.WordFault.TheVariants.{NotWords, EmptyName, BadNumber}
+use Rattle.tb_top.specs.declared.status.FileId.{FileId}
+use Rattle.tb_top.specs.declared.status.FileId.TheVariants as file
+use Rattle.tb_top.specs.declared.status.Status.{Status}
+use Rattle.tb_top.specs.declared.status.Status.TheVariants.{Done, Overload, Usage, Experiment, Build, TooLong, ReadFault, WriteFault, Memory}
+
+abbrev pub usage_word : WordFault → List ℕ
+usage_word NotWords = codes "not-words"
+usage_word EmptyName = codes "empty-name"
+usage_word BadNumber = codes "bad-number"
+
+abbrev pub why_word : ExpWhy → List ℕ
+why_word NotToml = codes "not-toml"
+why_word Missing = codes "missing"
+why_word Unknown = codes "unknown"
+why_word WrongKind = codes "wrong-kind"
+why_word Range = codes "range"
+why_word Twice = codes "twice"
+why_word NoSuchGuest = codes "no-such-guest"
+why_word NicTaken = codes "nic-taken"
+why_word NicRange = codes "nic-range"
+why_word NoGuest = codes "no-guest"
+why_word NoSlot = codes "no-slot"
+why_word NotBuilt = codes "not-built"
+
+abbrev pub section_word : Section → List ℕ
+section_word Top = codes " top "
+section_word Slot = codes " slot "
+section_word Guest = codes " guest "
+section_word Disk = codes " disk "
+section_word Link = codes " link "
+
+-- a byte of a key, or a question mark for one that is no visible ASCII character
+abbrev pub shown_byte : ℕ → ℕ
+shown_byte b = if nat_le 0x21 b && nat_le b 0x7e then b else 63
+
+abbrev pub shown_key : List ℕ → List ℕ
+shown_key [] = codes "-"
+shown_key (b ∷ bs) = map shown_byte (b ∷ bs)
+
+unfoldable pub fault_words : ExpFault → List ℕ
+fault_words f = why_word f.why ++ (section_word f.section ++ (decimal f.index ++ (codes " " ++ shown_key f.key)))
+
+abbrev pub image_word : ImageFault → List ℕ
+image_word image.TooLong = codes ": too-long"
+
+unfoldable pub build_words : BuildFault → List ℕ
+build_words (build.Image guest fault) = codes "image " ++ decimal guest ++ image_word fault
+build_words build.NoMemory = codes "out of memory"
+
+abbrev pub file_words : FileId → List ℕ
+file_words file.Experiment = codes "experiment"
+file_words (file.Image i) = codes "image " ++ decimal i
+file_words (file.Disk i) = codes "disk " ++ decimal i
+
+-- the line of a status; `Done` has none
+unfoldable pub status_line : Status → List ℕ
+status_line Done = []
+status_line (Overload slot need have) = codes "diecast: overload: slot " ++ decimal slot ++ codes " needs " ++ decimal need ++ codes ", has " ++ decimal have ++ codes "\n"
+status_line (Usage f) = codes "diecast: usage: " ++ usage_word f ++ codes "\n"
+status_line (Experiment f) = codes "diecast: experiment: " ++ fault_words f ++ codes "\n"
+status_line (Build f) = codes "diecast: " ++ build_words f ++ codes "\n"
+status_line (TooLong f) = codes "diecast: too long: " ++ file_words f ++ codes "\n"
+status_line (ReadFault f) = codes "diecast: read fault: " ++ file_words f ++ codes "\n"
+status_line WriteFault = codes "diecast: write fault\n"
+status_line Memory = codes "diecast: out of memory\n"
+
+abbrev pub is_done : Status → Bool
+is_done Done = true
+is_done _ = false
+
+-- what the message's sink took: nothing after `Done`, else exactly the line where its count did not rise
+abbrev pub Told : Status → Option (List ℕ) → Option (List ℕ) → ℕ → ℕ → Type 0
+Told s old new before now = MatchBool (is_done s) (new ≡ old) (¬ Rose before now → Takes old new (status_line s))

@@ -1,0 +1,14 @@
+//! The top call: from a command's words to its lines and its status.
+#![tactic(auto)]
+
+mod fetch;
+mod load;
+mod report;
+mod run;
+mod status;
+mod top;
+mod words;
+
+pub use status::{FileId, Status};
+pub use top::diecast;
+pub use words::WordFault;

@@ -1,0 +1,213 @@
+//! The line of a status.
+ghost use Rattle.std.specs.Prelude.{◌≡◌, ◌++◌, ◌⊎◌, ℕ, map, take, IfOk, OnOk, false};
+ghost use Rattle.std.specs.Fmt.{decimal};
+ghost use Rattle.tb_io.specs.Causes.{Rose};
+ghost use Rattle.tb_io.specs.Puts.{Takes};
+ghost use Rattle.tb_top.specs.Lines.{status_line, is_done, why_word, section_word, usage_word, file_words, fault_words, build_words, image_word, shown_key, shown_byte, Told};
+
+use crate::status::{FileId, Status};
+use crate::words::WordFault;
+use bench_build::{BuildFault, ImageFault};
+use exp_file::{ExpFault, ExpWhy, Section};
+use std::alloc::Global;
+use tb_base::{Bytes, NoMemory};
+use tb_io::Sink;
+use tb_text::put_dec;
+
+const OUT_OF_MEMORY: &[u8; 23] = b"diecast: out of memory\n";
+
+/// Tells a status, and gives the one that the command ends with: where there is no memory for the
+/// line, that is `Memory`.
+#[tactic(auto, unfolding(crate::specs::Lines::status_line))]
+pub(crate) fn tell<M: Sink>(alloc: Global, status: Status, msg: &mut M) -> Status
+    ensures same { (result ≡ status) ⊎ ((result ≡ Status.Memory) × (is_done status ≡ false)) }
+    ensures told { Told result (M.taken msg.old) (M.taken msg.new) (M.faults msg.old) (M.faults msg.new) }
+{
+    if is_done(&status) {
+        return status;
+    }
+    match line_of(alloc, &status) {
+        Ok(line) => {
+            say(msg, line.as_slice());
+            status
+        }
+        Err(_) => {
+            say(msg, OUT_OF_MEMORY);
+            Status::Memory
+        }
+    }
+}
+
+fn is_done(status: &Status) -> bool
+    ensures { result ≡ is_done status.now }
+{
+    matches!(status, Status::Done)
+}
+
+/// Puts a line, whatever comes of it.
+fn say<M: Sink>(msg: &mut M, line: &[u8])
+    ensures { ¬ Rose (M.faults msg.old) (M.faults msg.new) → Takes (M.taken msg.old) (M.taken msg.new) line.now }
+{
+    let _ = msg.put(line);
+}
+
+/// The line of a status, which for `Done` is empty.
+#[tactic(auto, unfolding(crate::specs::Lines::status_line))]
+fn line_of(alloc: Global, status: &Status) -> Result<Bytes, NoMemory>
+    ensures { IfOk result (λ line. line ≡ status_line status.now) }
+{
+    let mut line = Bytes::new(alloc);
+    match status {
+        Status::Done => return Ok(line),
+        Status::Overload { slot, need, have } => {
+            add(&mut line, b"diecast: overload: slot ", u64::from(*slot))?;
+            add(&mut line, b" needs ", *need)?;
+            add(&mut line, b", has ", *have)?;
+        }
+        Status::Usage(fault) => {
+            line.push_slice(b"diecast: usage: ")?;
+            line.push_slice(usage_word(*fault).as_bytes())?;
+        }
+        Status::Experiment(fault) => {
+            line.push_slice(b"diecast: experiment: ")?;
+            add_fault(&mut line, fault)?;
+        }
+        Status::Build(fault) => {
+            line.push_slice(b"diecast: ")?;
+            add_build(&mut line, fault)?;
+        }
+        Status::TooLong { file } => {
+            line.push_slice(b"diecast: too long: ")?;
+            add_file(&mut line, *file)?;
+        }
+        Status::ReadFault { file } => {
+            line.push_slice(b"diecast: read fault: ")?;
+            add_file(&mut line, *file)?;
+        }
+        Status::WriteFault => line.push_slice(b"diecast: write fault")?,
+        Status::Memory => line.push_slice(b"diecast: out of memory")?,
+    }
+    line.push_slice(b"\n")?;
+    Ok(line)
+}
+
+/// Adds a word and a number to a line.
+fn add(line: &mut Bytes, word: &[u8], n: u64) -> Result<(), NoMemory>
+    ensures { OnOk result (line.new ≡ line.old ++ word.now ++ decimal n) }
+{
+    line.push_slice(word)?;
+    put_dec(line, n)?;
+    Ok(())
+}
+
+/// Adds why an experiment file is refused, and where in it.
+#[tactic(auto, unfolding(crate::specs::Lines::fault_words))]
+fn add_fault(line: &mut Bytes, fault: &ExpFault) -> Result<(), NoMemory>
+    ensures { OnOk result (line.new ≡ line.old ++ fault_words fault.now) }
+{
+    line.push_slice(why_word(fault.why).as_bytes())?;
+    add(
+        line,
+        section_word(fault.section).as_bytes(),
+        u64::from(fault.index),
+    )?;
+    line.push_slice(b" ")?;
+    add_key(line, fault.key.as_slice())?;
+    Ok(())
+}
+
+/// Adds a key, in which a byte that is no visible ASCII character is shown as a question mark.
+fn add_key(line: &mut Bytes, key: &[u8]) -> Result<(), NoMemory>
+    ensures { OnOk result (line.new ≡ line.old ++ shown_key key.now) }
+{
+    if key.is_empty() {
+        line.push_slice(b"-")?;
+        return Ok(());
+    }
+    for b in key {
+        line.push_slice(&[shown_byte(*b)])?;
+    }
+    Ok(())
+}
+
+fn shown_byte(b: u8) -> u8
+    ensures { result ≡ shown_byte b }
+{
+    if 0x21 <= b && b <= 0x7e { b } else { b'?' }
+}
+
+/// Adds why the bench was not built.
+#[tactic(auto, unfolding(crate::specs::Lines::build_words))]
+fn add_build(line: &mut Bytes, fault: &BuildFault) -> Result<(), NoMemory>
+    ensures { OnOk result (line.new ≡ line.old ++ build_words fault.now) }
+{
+    match fault {
+        BuildFault::Image { guest, fault } => {
+            add(line, b"image ", u64::from(*guest))?;
+            line.push_slice(image_word(*fault).as_bytes())?;
+        }
+        BuildFault::NoMemory => line.push_slice(b"out of memory")?,
+    }
+    Ok(())
+}
+
+/// Adds the name of a file.
+fn add_file(line: &mut Bytes, file: FileId) -> Result<(), NoMemory>
+    ensures { OnOk result (line.new ≡ line.old ++ file_words file) }
+{
+    match file {
+        FileId::Experiment => line.push_slice(b"experiment")?,
+        FileId::Image(i) => add(line, b"image ", u64::from(i))?,
+        FileId::Disk(i) => add(line, b"disk ", u64::from(i))?,
+    }
+    Ok(())
+}
+
+fn usage_word(fault: WordFault) -> &'static str
+    ensures { result.now ≡ usage_word fault }
+{
+    match fault {
+        WordFault::NotWords => "not-words",
+        WordFault::EmptyName => "empty-name",
+        WordFault::BadNumber => "bad-number",
+    }
+}
+
+fn image_word(fault: ImageFault) -> &'static str
+    ensures { result.now ≡ image_word fault }
+{
+    match fault {
+        ImageFault::TooLong => ": too-long",
+    }
+}
+
+fn why_word(why: ExpWhy) -> &'static str
+    ensures { result.now ≡ why_word why }
+{
+    match why {
+        ExpWhy::NotToml => "not-toml",
+        ExpWhy::Missing => "missing",
+        ExpWhy::Unknown => "unknown",
+        ExpWhy::WrongKind => "wrong-kind",
+        ExpWhy::Range => "range",
+        ExpWhy::Twice => "twice",
+        ExpWhy::NoSuchGuest => "no-such-guest",
+        ExpWhy::NicTaken => "nic-taken",
+        ExpWhy::NicRange => "nic-range",
+        ExpWhy::NoGuest => "no-guest",
+        ExpWhy::NoSlot => "no-slot",
+        ExpWhy::NotBuilt => "not-built",
+    }
+}
+
+fn section_word(section: Section) -> &'static str
+    ensures { result.now ≡ section_word section }
+{
+    match section {
+        Section::Top => " top ",
+        Section::Slot => " slot ",
+        Section::Guest => " guest ",
+        Section::Disk => " disk ",
+        Section::Link => " link ",
+    }
+}

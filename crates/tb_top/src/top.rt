@@ -1,0 +1,170 @@
+//! The top call.
+ghost use Rattle.std.specs.Prelude.{◌≡◌, ◌⊎◌, ◌≤◌, true, ℕ, List, map, string_bytes, length, Some};
+ghost use Rattle.tb_io.specs.Causes.{Rose};
+ghost use Rattle.exp_file.specs.declared.experiment.Experiment.{Experiment};
+ghost use Rattle.exp_file.specs.WellFormed.{IsWellFormed};
+ghost use Rattle.exp_file.specs.Reading.{is_built};
+ghost use Rattle.host_plan.specs.Placing.{placed};
+ghost use Rattle.tb_top.specs.Lines.{Told};
+ghost use Rattle.tb_base.specs.declared.limits.TheConstants.{EXPERIMENT_FILE};
+ghost use Rattle.host_plan.specs.Fits.{Fits, IsPlacement};
+ghost use Rattle.tb_top.specs.Ends.{Ends, world, MayRun, missed_status, load_status};
+ghost use Rattle.tb_top.specs.Reads.{IsRead, Says};
+ghost use Rattle.tb_top.specs.Words.{IsCommand};
+
+use crate::fetch::{Missed, fetch};
+use crate::load::{LoadErr, load_images};
+use crate::report::tell;
+use crate::run::{RunErr, run};
+use crate::status::{FileId, Status};
+use crate::words::{Command, read_words};
+use bench_build::{BuildFault, Builder};
+use exp_file::{ExpErr, Experiment, read_experiment};
+use host_plan::{Placement, check, place};
+use std::alloc::Global;
+use tb_base::limits::EXPERIMENT_FILE;
+use tb_io::{Files, Sink};
+
+/// Runs a command: `words` are its words after the program's own name. What it reads comes from
+/// `files`, what it prints goes to `out`, one whole line a put, and why it did not end well is put
+/// to `msg` as one line.
+pub fn diecast<F: Files, O: Sink, M: Sink>(
+    alloc: Global,
+    words: &[String],
+    files: &mut F,
+    out: &mut O,
+    msg: &mut M,
+) -> Status
+    // What the status says and what `out` has taken: with `Done`, the text of a complete legal
+    // journal of the very experiment and images that were read.
+    ensures ends { Ends (world (map string_bytes words.now) (F.held files.old) (F.faults files.old) (F.faults files.new) (F.fault_name files.new) (O.taken out.old) (O.taken out.new) (O.faults out.old) (O.faults out.new)) result }
+
+    // Where all that is told is right and nothing fails, a run comes to its end, or finds no memory.
+    ensures complete { (e : Experiment) → MayRun (map string_bytes words.now) (F.held files.old) e
+        → ¬ Rose (F.faults files.old) (F.faults files.new) → ¬ Rose (O.faults out.old) (O.faults out.new) → (result ≡ Status.Done) ⊎ (result ≡ Status.Memory) }
+
+    // The line of the status, where `msg` did not fail.
+    ensures told { Told result (M.taken msg.old) (M.taken msg.new) (M.faults msg.old) (M.faults msg.new) }
+{
+    let status = work(alloc, words, files, out);
+    tell(alloc, status, msg)
+}
+
+/// The command, but for the line of its status.
+fn work<F: Files, O: Sink>(alloc: Global, words: &[String], files: &mut F, out: &mut O) -> Status
+    ensures { Ends (world (map string_bytes words.now) (F.held files.old) (F.faults files.old) (F.faults files.new) (F.fault_name files.new) (O.taken out.old) (O.taken out.new) (O.faults out.old) (O.faults out.new)) result }
+{
+    match read_words(words) {
+        Ok(command) => run_command(alloc, command, files, out),
+        Err(fault) => Status::Usage(fault),
+    }
+}
+
+/// Reads the experiment of a command, and runs it.
+fn run_command<F: Files, O: Sink>(
+    alloc: Global,
+    command: Command<'_>,
+    files: &mut F,
+    out: &mut O,
+) -> Status
+    requires { command.host_ticks ≤ 1000000 }
+    ensures { (words : List (List ℕ)) → IsCommand words command.entry.file.now command.entry.host_ticks →
+        Ends (world words (F.held files.old) (F.faults files.old) (F.faults files.new) (F.fault_name files.new) (O.taken out.old) (O.taken out.new) (O.faults out.old) (O.faults out.new)) result }
+{
+    let bytes = match fetch(alloc, files, command.file, EXPERIMENT_FILE) {
+        Ok(bytes) => bytes,
+        Err(missed) => return missed_status(FileId::Experiment, missed),
+    };
+    match read_experiment(alloc, bytes.as_slice()) {
+        Ok(e) => run_experiment(alloc, &e, command.host_ticks, files, out),
+        Err(ExpErr::Fault(fault)) => Status::Experiment(fault),
+        Err(ExpErr::NoMemory) => Status::Memory,
+    }
+}
+
+/// Places the guests of an experiment, and runs it where that fits.
+fn run_experiment<F: Files, O: Sink>(
+    alloc: Global,
+    e: &Experiment,
+    host_ticks: u64,
+    files: &mut F,
+    out: &mut O,
+) -> Status
+    requires well_formed { IsWellFormed e.now }
+    requires built { is_built e.now ≡ true }
+    requires few { host_ticks ≤ 1000000 }
+    ensures { (words : List (List ℕ)) (name b : List ℕ) (before : ℕ) → IsCommand words name host_ticks → IsRead (F.held files.old name) EXPERIMENT_FILE b → Says b e.now → before ≤ F.faults files.old →
+        Ends (world words (F.held files.old) before (F.faults files.new) (F.fault_name files.new) (O.taken out.old) (O.taken out.new) (O.faults out.old) (O.faults out.new)) result }
+{
+    let placement = match place(alloc, e) {
+        Ok(placement) => placement,
+        Err(_) => return Status::Memory,
+    };
+    match check(e, &placement) {
+        Ok(()) => run_placed(alloc, e, &placement, host_ticks, files, out),
+        Err(over) => Status::Overload {
+            slot: over.slot,
+            need: over.need,
+            have: over.have,
+        },
+    }
+}
+
+/// Builds the bench of an experiment whose placement fits, and runs it.
+fn run_placed<F: Files, O: Sink>(
+    alloc: Global,
+    e: &Experiment,
+    placement: &Placement,
+    host_ticks: u64,
+    files: &mut F,
+    out: &mut O,
+) -> Status
+    requires well_formed { IsWellFormed e.now }
+    requires built { is_built e.now ≡ true }
+    requires few { host_ticks ≤ 1000000 }
+    requires placed { placement.now.slots.items ≡ placed e.now }
+    requires placement { IsPlacement e.now placement.now.slots.items }
+    requires fits { Fits e.now placement.now.slots.items }
+    ensures { (words : List (List ℕ)) (name b : List ℕ) (before : ℕ) → IsCommand words name host_ticks → IsRead (F.held files.old name) EXPERIMENT_FILE b → Says b e.now → before ≤ F.faults files.old →
+        Ends (world words (F.held files.old) before (F.faults files.new) (F.fault_name files.new) (O.taken out.old) (O.taken out.new) (O.faults out.old) (O.faults out.new)) result }
+{
+    let mut builder = match Builder::new(alloc, e, placement) {
+        Ok(builder) => builder,
+        Err(_) => return Status::Memory,
+    };
+    match load_images(alloc, files, e, &mut builder) {
+        Ok(()) => (),
+        Err(fault) => return load_status(fault),
+    }
+    let bench = match builder.finish() {
+        Ok(bench) => bench,
+        Err(_) => return Status::Memory,
+    };
+    match run(alloc, e, host_ticks, bench, out) {
+        Ok(()) => Status::Done,
+        Err(RunErr::NoMemory) => Status::Memory,
+        Err(RunErr::WriteFailed) => Status::WriteFault,
+    }
+}
+
+/// The status of images that were not taken.
+fn load_status(fault: LoadErr) -> Status
+    ensures { result ≡ load_status fault }
+{
+    match fault {
+        LoadErr::Missed(guest, missed) => missed_status(FileId::Image(guest), missed),
+        LoadErr::Build(BuildFault::NoMemory) => Status::Memory,
+        LoadErr::Build(fault) => Status::Build(fault),
+    }
+}
+
+/// The status of a file that gave no bytes.
+fn missed_status(file: FileId, missed: Missed) -> Status
+    ensures { result ≡ missed_status file missed }
+{
+    match missed {
+        Missed::Failed => Status::ReadFault { file },
+        Missed::TooLong => Status::TooLong { file },
+        Missed::NoMemory => Status::Memory,
+    }
+}
