@@ -1,0 +1,53 @@
+-- The disks of an experiment file, and the guests that its names stand for.
+use Rattle.std.specs.Prelude.{◌==◌, ℕ, suc, nat_lt, List, [], ◌∷◌, length, Option, Some, None, Result, Ok, Err, codes, if◌then◌else◌}
+use Rattle.std.specs.List.{count_by}
+use Rattle.std.specs.Str.{bytes_eq}
+use Rattle.toml.specs.Data.{Data}
+use Rattle.exp_file.specs.declared.exp_fault.ExpFault.{ExpFault}
+use Rattle.exp_file.specs.declared.exp_why.ExpWhy.TheVariants.{NoSuchGuest, Range}
+use Rattle.exp_file.specs.declared.section.Section.TheVariants.{Disk}
+use Rattle.exp_file.specs.declared.form.Form.TheVariants.{AnyText, ImageName}
+use Rattle.exp_file.specs.declared.guest_spec.GuestSpec.{GuestSpec}
+use Rattle.exp_file.specs.declared.disk_spec.DiskSpec.{DiskSpec}
+use Rattle.exp_file.specs.Rows.{◌>>=◌, Place, fault_at, number, number_or, text, maybe_text, known}
+use Rattle.exp_file.specs.Tables.{row}
+
+-- the number of the guest that has a name, where the first of these has the number given
+abbrev pub guest_named : ℕ → List GuestSpec → List ℕ → Option ℕ
+guest_named i [] name = None
+guest_named i (g ∷ gs) name = if bytes_eq g.name name then Some i else guest_named (suc i) gs name
+
+-- the guest that the text at a key names, if there is one
+unfoldable pub guest_at : Place → List GuestSpec → List ℕ → Result (Option ℕ) ExpFault
+guest_at p guests key = do
+  name ← text p key AnyText
+  Ok (guest_named 0 guests name)
+
+unfoldable pub found : Place → List ℕ → Option ℕ → Result ℕ ExpFault
+found p key None = Err (fault_at p key NoSuchGuest)
+found p key (Some g) = Ok g
+
+-- how many of these disks a guest has
+abbrev pub disks_of : ℕ → List DiskSpec → ℕ
+disks_of g disks = count_by (λ d. d.guest == g) disks
+
+-- a guest that has fewer than two disks so far
+unfoldable pub with_room : List DiskSpec → Place → ℕ → Result ℕ ExpFault
+with_room done p g = if nat_lt (disks_of g done) 2 then Ok g else Err (fault_at p (codes "guest") Range)
+
+unfoldable pub disk_of : List GuestSpec → List DiskSpec → Place → Result DiskSpec ExpFault
+disk_of guests done p = do
+  _ ← known p
+  named ← guest_at p guests (codes "guest")
+  sectors ← number p (codes "sectors") 1 32768
+  image ← maybe_text p (codes "image") ImageName
+  base ← number p (codes "base") 1 1000000
+  per_sector ← number_or p (codes "per_sector") 0 1000000 0
+  seek_num ← number_or p (codes "seek_num") 0 1000000 0
+  seek_den ← number_or p (codes "seek_den") 1 1000000 1
+  g ← found p (codes "guest") named
+  guest ← with_room done p g
+  Ok (record { guest = guest; sectors = sectors; image = image; base = base; per_sector = per_sector; seek_num = seek_num; seek_den = seek_den })
+
+unfoldable pub disk_step : List GuestSpec → List DiskSpec → Data → Result DiskSpec ExpFault
+disk_step guests done d = row Disk (length done) d >>= disk_of guests done

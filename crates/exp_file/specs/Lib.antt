@@ -1,0 +1,10 @@
+pub mod Rows
+pub mod Places
+pub mod RowOf
+pub mod Lists
+pub mod Tables
+pub mod Disks
+pub mod Links
+pub mod Reading
+pub mod WellFormed
+pub mod Unknown

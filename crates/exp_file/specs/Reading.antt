@@ -1,0 +1,60 @@
+-- What an experiment file says: the experiment, or the first fault.
+use Rattle.std.specs.Prelude.{◌==◌, ℕ, ◌&&◌, List, [], length, Option, Some, None, Result, Ok, Err, Bool, true, false, codes, if◌then◌else◌}
+use Rattle.std.specs.List.{list_all}
+use Rattle.std.specs.Str.{is_utf8}
+use Rattle.toml.specs.Data.{Members}
+use Rattle.toml.specs.Parse.{parse_document}
+use Rattle.exp_file.specs.declared.exp_fault.ExpFault.{ExpFault}
+use Rattle.exp_file.specs.declared.exp_why.ExpWhy.TheVariants.{NotToml, NoSlot, NoGuest, NotBuilt}
+use Rattle.exp_file.specs.declared.section.Section.TheVariants.{Top}
+use Rattle.exp_file.specs.declared.experiment.Experiment.{Experiment}
+use Rattle.exp_file.specs.declared.guest_spec.Format.{Format}
+use Rattle.exp_file.specs.declared.guest_spec.Format.TheVariants.{Elf, Flat}
+use Rattle.exp_file.specs.Rows.{◌>>=◌, Place, number, known, array, some_array}
+use Rattle.exp_file.specs.Lists.{listed}
+use Rattle.exp_file.specs.Tables.{each, slot_step, guest_step}
+use Rattle.exp_file.specs.Disks.{disk_step}
+use Rattle.exp_file.specs.Links.{link_step}
+
+abbrev pub is_flat : Format → Bool
+is_flat Flat = true
+is_flat Elf = false
+
+-- whether all that an experiment asks for can be run: no disk, no link, and of each guest no nic and a flat image
+abbrev pub is_built : Experiment → Bool
+is_built e = length e.disks.items == 0 && length e.links.items == 0 && list_all (λ g. g.nics == 0 && is_flat g.format) e.guests.items
+
+unfoldable pub built : Experiment → Result Experiment ExpFault
+built e = if is_built e then Ok e else Err (record { why = NotBuilt; section = Top; index = 0; key = [] })
+
+-- the experiment that a file's own table says
+unfoldable pub top_of : Place → Result Experiment ExpFault
+top_of p = do
+  _ ← known p
+  version ← number p (codes "version") 1 1
+  factor ← number p (codes "factor") 1 1000
+  slot_items ← some_array p (codes "slot") 32 NoSlot
+  guest_items ← some_array p (codes "guest") 32 NoGuest
+  disk_items ← array p (codes "disk") 64
+  link_items ← array p (codes "link") 64
+  slots ← each slot_step [] slot_items
+  guests ← each (guest_step (length slots)) [] guest_items
+  disks ← each (disk_step guests) [] disk_items
+  links ← each (link_step guests) [] link_items
+  Ok (record { version = version; factor = factor; slots = listed slots; guests = listed guests; disks = listed disks; links = listed links })
+
+-- the table that the bytes are, where they are a text
+abbrev pub document : List ℕ → Option Members
+document b = if is_utf8 b then parse_document b else None
+
+abbrev pub of_document : Option Members → Result Experiment ExpFault
+of_document None = Err (record { why = NotToml; section = Top; index = 0; key = [] })
+of_document (Some ms) = top_of (record { section = Top; index = 0; members = ms })
+
+-- the experiment that the bytes say, whether or not it can be run
+unfoldable pub said : List ℕ → Result Experiment ExpFault
+said b = of_document (document b)
+
+-- the experiment that a file says, with no room in its lists, or why the file is refused
+unfoldable pub reading : List ℕ → Result Experiment ExpFault
+reading b = said b >>= built

@@ -1,0 +1,32 @@
+//! Experiments, read from their files: what a file says, and the first fault of one that is refused.
+#![tactic(auto)]
+
+mod disk_spec;
+mod disks;
+mod exp_fault;
+mod exp_why;
+mod experiment;
+mod form;
+mod guest_spec;
+mod guests;
+mod link_spec;
+mod links;
+mod read;
+mod rows;
+mod section;
+mod slot_spec;
+mod slots;
+#[cfg(test)]
+mod tests;
+mod unknown;
+
+pub use disk_spec::DiskSpec;
+pub use exp_fault::{ExpErr, ExpFault};
+pub use exp_why::ExpWhy;
+pub use experiment::Experiment;
+pub use guest_spec::{Format, GuestSpec};
+pub use link_spec::LinkSpec;
+pub use read::read_experiment;
+pub use section::Section;
+pub use slot_spec::SlotSpec;
+pub use unknown::unknown_key;

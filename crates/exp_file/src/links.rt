@@ -1,0 +1,208 @@
+//! The links.
+ghost use Rattle.std.specs.Prelude.{◌≡◌, ◌+◌, [], ◌≤◌, ◌<◌, length, ℕ, Some, IfOk, IfSome, All, false};
+ghost use Rattle.toml.specs.View.{view, items_view};
+ghost use Rattle.exp_file.specs.Links.{nics_of, has_end, is_used, is_same, free_nic, end_of, link_fields, link_ends, link_step, ends_at};
+ghost use Rattle.exp_file.specs.Lists.{ListGives};
+ghost use Rattle.exp_file.specs.Places.{place};
+ghost use Rattle.exp_file.specs.Rows.{Gives};
+ghost use Rattle.exp_file.specs.Tables.{each};
+ghost use Rattle.exp_file.specs.WellFormed.{IsLink, IsFree, AreFields};
+
+use crate::disks::{found, guest_at};
+use crate::exp_fault::ExpErr;
+use crate::exp_why::ExpWhy;
+use crate::guest_spec::GuestSpec;
+use crate::link_spec::LinkSpec;
+use crate::rows::Row;
+use crate::section::Section;
+use crate::slots::row;
+use std::alloc::Global;
+use tb_base::ItemList;
+use tb_base::limits::{BANDWIDTH, DELAY, NICS, QUEUE};
+use toml::Value;
+
+fn has_end(g: u32, nic: u32, link: &LinkSpec) -> bool
+    ensures { result ≡ has_end g nic link.now }
+{
+    link.a == g && link.a_nic == nic || link.b == g && link.b_nic == nic
+}
+
+fn is_used(links: &[LinkSpec], g: u32, nic: u32) -> bool
+    ensures { result ≡ is_used links.now g nic }
+{
+    links.iter().any(|link| has_end(g, nic, link))
+}
+
+fn is_same(other: Option<(u32, u32)>, g: u32, nic: u32) -> bool
+    ensures { result ≡ is_same other g nic }
+{
+    match other {
+        Some(end) => end.0 == g && end.1 == nic,
+        None => false,
+    }
+}
+
+fn nics_of(guests: &[GuestSpec], g: u32) -> u32
+    ensures { result ≡ nics_of guests.now g }
+{
+    match guests.get(g as usize) {
+        Some(guest) => guest.nics,
+        None => 0,
+    }
+}
+
+#[tactic(auto, unfolding(crate::specs::Links::free_nic))]
+fn free_nic(row: &Row<'_>, key: &str, nics: u32, nic: u32, taken: bool) -> Result<u32, ExpErr>
+    ensures given { Gives result (free_nic (place row.now.section row.now.index row.now.table.now) key.now nics nic taken) }
+    ensures bound { IfOk result (λ _. nic < nics) }
+    ensures free { IfOk result (λ _. taken ≡ false) }
+{
+    if nic >= nics {
+        return Err(row.fault(key, ExpWhy::NicRange));
+    }
+    if taken {
+        return Err(row.fault(key, ExpWhy::NicTaken));
+    }
+    Ok(nic)
+}
+
+/// What an end of a link must not meet: the guests, the links before it, and its link's other end.
+#[derive(Clone, Copy)]
+struct Around<'a> {
+    guests: &'a [GuestSpec],
+    done: &'a [LinkSpec],
+    other: Option<(u32, u32)>,
+}
+
+#[tactic(auto, unfolding(crate::specs::Links::end_of))]
+fn end_of(
+    row: &Row<'_>,
+    around: &Around<'_>,
+    key: &str,
+    nic_key: &str,
+    named: Option<u32>,
+    nic: u32,
+) -> Result<u32, ExpErr>
+    ensures given { Gives result (end_of (place row.now.section row.now.index row.now.table.now) around.now.guests.now around.now.done.now around.now.other key.now nic_key.now named nic) }
+    ensures same { IfOk result (λ g. named ≡ Some g) }
+    ensures nic { IfOk result (λ g. nic < nics_of around.now.guests.now g) }
+    ensures unused { IfOk result (λ g. is_used around.now.done.now g nic ≡ false) }
+    ensures other { IfOk result (λ g. is_same around.now.other g nic ≡ false) }
+{
+    let g = found(row, key, named)?;
+    let taken = is_used(around.done, g, nic) || is_same(around.other, g, nic);
+    free_nic(row, nic_key, nics_of(around.guests, g), nic, taken)?;
+    Ok(g)
+}
+
+/// What a link's table says; an end is none where no guest has the name.
+#[derive(Clone, Copy)]
+pub struct LinkFields {
+    pub a: Option<u32>,
+    pub a_nic: u32,
+    pub b: Option<u32>,
+    pub b_nic: u32,
+    pub bandwidth: u64,
+    pub delay: u64,
+    pub queue: u32,
+}
+
+#[tactic(auto, unfolding(crate::specs::Links::link_fields))]
+fn link_fields(guests: &[GuestSpec], row: &Row<'_>) -> Result<LinkFields, ExpErr>
+    requires { length guests.now ≤ 32 }
+    ensures given { Gives result (link_fields guests.now (place row.now.section row.now.index row.now.table.now)) }
+    ensures well { IfOk result (AreFields (length guests.now)) }
+{
+    row.known()?;
+    let a = guest_at(guests, row, "a")?;
+    let a_nic = row.number_or("a_nic", 0, u64::from(NICS) - 1, 0)?;
+    let b = guest_at(guests, row, "b")?;
+    let b_nic = row.number_or("b_nic", 0, u64::from(NICS) - 1, 0)?;
+    let bandwidth = row.number("bandwidth", 1, BANDWIDTH)?;
+    let delay = row.number("delay", 1, DELAY)?;
+    let queue = row.number("queue", 1, u64::from(QUEUE))?;
+    Ok(LinkFields {
+        a,
+        a_nic: a_nic as u32,
+        b,
+        b_nic: b_nic as u32,
+        bandwidth,
+        delay,
+        queue: queue as u32,
+    })
+}
+
+#[tactic(auto, unfolding(crate::specs::Links::link_ends))]
+fn link_ends(
+    guests: &[GuestSpec],
+    done: &[LinkSpec],
+    row: &Row<'_>,
+    f: &LinkFields,
+) -> Result<LinkSpec, ExpErr>
+    requires { AreFields (length guests.now) f.now }
+    ensures given { Gives result (link_ends guests.now done.now (place row.now.section row.now.index row.now.table.now) f.now) }
+    ensures well { IfOk result (IsLink guests.now) }
+    ensures free { IfOk result (IsFree done.now) }
+{
+    let first = Around {
+        guests,
+        done,
+        other: None,
+    };
+    let a = end_of(row, &first, "a", "a_nic", f.a, f.a_nic)?;
+    let second = Around {
+        guests,
+        done,
+        other: Some((a, f.a_nic)),
+    };
+    let b = end_of(row, &second, "b", "b_nic", f.b, f.b_nic)?;
+    Ok(LinkSpec {
+        a,
+        a_nic: f.a_nic,
+        b,
+        b_nic: f.b_nic,
+        bandwidth: f.bandwidth,
+        delay: f.delay,
+        queue: f.queue,
+    })
+}
+
+#[tactic(auto, unfolding(crate::specs::Links::link_step))]
+fn link_step(guests: &[GuestSpec], done: &[LinkSpec], value: &Value) -> Result<LinkSpec, ExpErr>
+    requires guests { length guests.now ≤ 32 }
+    requires room { length done.now < 64 }
+    ensures given { Gives result (link_step guests.now done.now (view value.now)) }
+    ensures well { IfOk result (IsLink guests.now) }
+    ensures free { IfOk result (IsFree done.now) }
+{
+    let row = row(Section::Link, done.len() as u32, value)?;
+    let fields = link_fields(guests, &row)?;
+    link_ends(guests, done, &row, &fields)
+}
+
+/// The links that an array's items say, in order.
+pub(crate) fn read_links(
+    alloc: Global,
+    guests: &[GuestSpec],
+    values: &[Value],
+) -> Result<ItemList<LinkSpec>, ExpErr>
+    requires guests { length guests.now ≤ 32 }
+    requires room { length values.now ≤ 64 }
+    ensures given { ListGives result (each (link_step guests.now) [] (items_view values.now)) }
+    ensures bound { IfOk result (λ s. length s.items ≡ length values.now) }
+    ensures well { IfOk result (λ s. All (IsLink guests.now) s.items) }
+    ensures one { IfOk result (λ s. (g nic : ℕ) → ends_at g nic s.items ≤ 1) }
+{
+    let mut links = ItemList::new(alloc);
+    for value in values {
+        let link = match link_step(guests, links.as_slice(), value) {
+            Ok(link) => link,
+            Err(e) => return Err(e),
+        };
+        match links.push(link) {
+            Ok(()) => (),
+            Err(_) => return Err(ExpErr::NoMemory),
+        }
+    }
+    Ok(links)
+}

@@ -1,0 +1,126 @@
+//! A whole file.
+ghost use Rattle.std.specs.Prelude.{◌≡◌, ◌&&◌, ◌<◌, ◌≤◌, IfOk, length, true, ◌==◌, []};
+ghost use Rattle.std.specs.List.{list_all};
+ghost use Rattle.toml.specs.View.{table_view};
+ghost use Rattle.exp_file.specs.Lists.{Reads};
+ghost use Rattle.exp_file.specs.Places.{place};
+ghost use Rattle.exp_file.specs.Reading.{top_of, built, is_built, is_flat, said, reading};
+ghost use Rattle.exp_file.specs.declared.section.Section.TheVariants.{Top};
+ghost use Rattle.exp_file.specs.WellFormed.{IsWellFormed};
+
+use crate::disks::read_disks;
+use crate::exp_fault::{ExpErr, ExpFault};
+use crate::exp_why::ExpWhy;
+use crate::experiment::Experiment;
+use crate::guest_spec::{Format, GuestSpec};
+use crate::guests::read_guests;
+use crate::links::read_links;
+use crate::rows::Row;
+use crate::section::Section;
+use crate::slots::read_slots;
+use std::alloc::Global;
+use tb_base::Label;
+use tb_base::limits::{DISKS, FACTOR, GUESTS, LINKS, SLOTS};
+
+fn top_fault(why: ExpWhy) -> ExpErr
+    ensures { result ≡ ExpErr.Fault (record { why = why; section = Top; index = 0; key = [] }) }
+{
+    ExpErr::Fault(ExpFault {
+        why,
+        section: Section::Top,
+        index: 0,
+        key: Label::cut(b""),
+    })
+}
+
+fn is_flat(format: Format) -> bool
+    ensures { result ≡ is_flat format }
+{
+    match format {
+        Format::Flat => true,
+        Format::Elf => false,
+    }
+}
+
+fn is_built_guest(g: &GuestSpec) -> bool
+    ensures { result ≡ (g.now.nics == 0 && is_flat g.now.format) }
+{
+    g.nics == 0 && is_flat(g.format)
+}
+
+fn are_built_guests(guests: &[GuestSpec]) -> bool
+    ensures { result ≡ list_all (λ g. g.nics == 0 && is_flat g.format) guests.now }
+{
+    guests.iter().all(|g| is_built_guest(g))
+}
+
+fn is_built(e: &Experiment) -> bool
+    ensures { result ≡ is_built e.now }
+{
+    e.disks.is_empty() && e.links.is_empty() && are_built_guests(e.guests.as_slice())
+}
+
+#[tactic(auto, unfolding(crate::specs::Reading::top_of))]
+fn read_top(alloc: Global, row: &Row<'_>) -> Result<Experiment, ExpErr>
+    ensures given { Reads result (top_of (place row.now.section row.now.index row.now.table.now)) }
+    ensures well { IfOk result IsWellFormed }
+{
+    row.known()?;
+    let version = row.number("version", 1, 1)?;
+    let factor = row.number("factor", 1, FACTOR)?;
+    let slot_values = row.some_array("slot", SLOTS, ExpWhy::NoSlot)?;
+    let guest_values = row.some_array("guest", GUESTS, ExpWhy::NoGuest)?;
+    let disk_values = row.array("disk", DISKS)?;
+    let link_values = row.array("link", LINKS)?;
+    let slots = read_slots(alloc, slot_values)?;
+    let guests = read_guests(alloc, slots.len() as u32, guest_values)?;
+    let disks = read_disks(alloc, guests.as_slice(), disk_values)?;
+    let links = read_links(alloc, guests.as_slice(), link_values)?;
+    Ok(Experiment {
+        version: version as u32,
+        factor,
+        slots,
+        guests,
+        disks,
+        links,
+    })
+}
+
+#[tactic(auto, unfolding(crate::specs::Reading::said))]
+fn read_document(alloc: Global, bytes: &[u8]) -> Result<Experiment, ExpErr>
+    ensures given { Reads result (said bytes.now) }
+    ensures well { IfOk result IsWellFormed }
+{
+    match toml::table_from_slice(alloc, bytes) {
+        Ok(table) => read_top(
+            alloc,
+            &Row {
+                section: Section::Top,
+                index: 0,
+                table: &table,
+            },
+        ),
+        Err(e) => {
+            if e.is_memory() {
+                Err(ExpErr::NoMemory)
+            } else {
+                Err(top_fault(ExpWhy::NotToml))
+            }
+        }
+    }
+}
+
+/// The experiment that a file's bytes say, or the first fault of the file.
+#[tactic(auto, unfolding(crate::specs::Reading::reading, crate::specs::Reading::built))]
+pub fn read_experiment(alloc: Global, bytes: &[u8]) -> Result<Experiment, ExpErr>
+    ensures reading { Reads result (reading bytes.now) }
+    ensures well_formed { IfOk result IsWellFormed }
+    ensures built { IfOk result (λ e. is_built e ≡ true) }
+{
+    let experiment = read_document(alloc, bytes)?;
+    if is_built(&experiment) {
+        Ok(experiment)
+    } else {
+        Err(top_fault(ExpWhy::NotBuilt))
+    }
+}

@@ -1,0 +1,3 @@
+pub mod MachineView
+pub mod Opening
+pub mod Tick

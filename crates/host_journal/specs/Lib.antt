@@ -1,0 +1,5 @@
+pub mod Causes
+pub mod Entries
+pub mod Keepers
+pub mod Standing
+pub mod Texts

@@ -1,0 +1,17 @@
+//! What a run prints: the entries of a run, their texts, and the keepers that put them to a sink.
+#![tactic(auto)]
+
+mod head;
+mod journal_keep;
+mod keep;
+mod lines;
+mod quantum;
+
+pub use head::Head;
+pub use journal_keep::JournalKeep;
+pub use keep::{Keep, KeepErr};
+pub use lines::{put_end, put_head, put_host_tick, put_quantum, put_slot};
+pub use quantum::Quantum;
+
+#[cfg(test)]
+mod tests;

@@ -1,0 +1,4 @@
+pub mod Factors
+pub mod Firsts
+pub mod Settled
+pub mod Sums

@@ -1,0 +1,9 @@
+use Rattle.std.proofs.Common.{arith}
+use Rattle.host_plan.proofs.Firsts.{best_some, best_none}
+use Rattle.host_plan.proofs.planner.next_free.Goals as goal
+
+pub returns-clause-some : goal.returns-clause-some
+returns-clause-some c = best_some c.args.seats.now c.loop-i.i c.loop-i.best (omega arith) c.loop-i.invariant
+
+pub returns-clause-none : goal.returns-clause-none
+returns-clause-none c = best_none c.args.seats.now c.loop-i.i c.loop-i.best (omega arith) c.loop-i.invariant

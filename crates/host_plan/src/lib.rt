@@ -1,0 +1,19 @@
+//! Placement of guests on slots: the rule by which they are placed, and whether a placement fits.
+#![tactic(auto)]
+
+mod least;
+mod load;
+mod need;
+mod overload;
+mod placement;
+mod planner;
+mod seat;
+mod seats;
+#[cfg(test)]
+mod tests;
+
+pub use least::Least;
+pub use need::{check, least_factor, slot_need};
+pub use overload::Overload;
+pub use placement::Placement;
+pub use planner::place;

@@ -1,0 +1,13 @@
+pub mod Clocks
+pub mod Flight
+pub mod Keeps
+pub mod Found
+pub mod Goes
+pub mod ListLemmas
+pub mod May
+pub mod Opens
+pub mod Seats
+pub mod Rests
+pub mod Limits
+pub mod Tells
+pub mod Wired

@@ -1,0 +1,14 @@
+pub mod Bound
+pub mod CoreWords
+pub mod Events
+pub mod Flying
+pub mod Lending
+pub mod Links
+pub mod Lists
+pub mod Motion
+pub mod Opening
+pub mod Rests
+pub mod Seats
+pub mod Stands
+pub mod Stops
+pub mod Synchronous

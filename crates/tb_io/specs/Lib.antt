@@ -1,0 +1,5 @@
+pub mod Causes
+pub mod Reads
+pub mod Puts
+pub mod FilesInMemory
+pub mod SinkInMemory

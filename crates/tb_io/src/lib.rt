@@ -1,0 +1,20 @@
+//! What the testbed reads and writes: files by name and sinks of bytes, each with a count of its
+//! faults, in memory and of the host.
+#![tactic(auto)]
+
+mod files;
+mod host_files;
+mod host_sink;
+mod mem_files;
+mod mem_sink;
+mod sink;
+
+pub use files::{Files, ReadErr};
+pub use host_files::HostFiles;
+pub use host_sink::HostSink;
+pub use mem_files::MemFiles;
+pub use mem_sink::MemSink;
+pub use sink::{PutErr, Sink};
+
+#[cfg(test)]
+mod tests;

@@ -1,0 +1,17 @@
+//! What happens in a guest's ticks: records, their lists, and the line of each.
+#![tactic(auto)]
+
+mod line;
+mod log;
+mod rec;
+mod view;
+mod what;
+
+pub use line::put_rec;
+pub use log::Log;
+pub use rec::Rec;
+pub use view::{View, shown};
+pub use what::What;
+
+#[cfg(test)]
+mod tests;

@@ -1,0 +1,10 @@
+//! A record of a trace.
+
+use crate::what::What;
+
+/// What happened in a virtual tick, which is counted from 0.
+#[derive(Debug, Drop)]
+pub struct Rec {
+    pub tick: u64,
+    pub what: What,
+}
