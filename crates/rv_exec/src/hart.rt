@@ -1,5 +1,6 @@
 //! Harts.
-ghost use Rattle.std.specs.Prelude.{◌≡◌, ◌<◌};
+ghost use Rattle.std.specs.Prelude.{◌≡◌, ◌+◌, ◌<◌, ◌%◌, ◌^◌};
+ghost use Rattle.rv_arith.specs.Words.{word_of};
 ghost use Rattle.rv_exec.specs.Meaning.{reg_of};
 ghost use Rattle.rv_exec.specs.Step.{opening_hart, is_busy};
 
@@ -55,6 +56,14 @@ impl Hart {
         ensures { result ≡ reg_of self.now i }
     {
         if i == 0 { 0 } else { self.regs[i as usize] }
+    }
+
+    /// The sum of a register and an immediate.
+    pub(crate) fn sum(&self, i: u32, imm: i32) -> u32
+        requires { i < 32 }
+        ensures { result ≡ (reg_of self.now i + word_of imm) % 2 ^ 32 }
+    {
+        self.reg(i).wrapping_add(imm.cast_unsigned())
     }
 
     /// The pc.

@@ -124,241 +124,107 @@ impl Hart {
     {
         match op {
             Op::Lui { rd, imm } => self.put_value(rd, imm.cast_unsigned()),
-            Op::Auipc { rd, imm } => {
-                let target = self.pc.wrapping_add(imm.cast_unsigned());
-                self.put_value(rd, target)
-            }
-            Op::Jal { rd, imm } => {
-                let target = self.pc.wrapping_add(imm.cast_unsigned());
-                self.jump(rd, target)
-            }
-            Op::Jalr { rd, rs1, imm } => {
-                let a = self.reg(rs1);
-                let b = imm.cast_unsigned();
-                self.jump(rd, a.wrapping_add(b) / 2 * 2)
-            }
-            Op::Beq { rs1, rs2, imm } => {
-                let a = self.reg(rs1);
-                let b = self.reg(rs2);
-                self.branch(a == b, imm)
-            }
-            Op::Bne { rs1, rs2, imm } => {
-                let a = self.reg(rs1);
-                let b = self.reg(rs2);
-                self.branch(a != b, imm)
-            }
-            Op::Blt { rs1, rs2, imm } => {
-                let a = self.reg(rs1);
-                let b = self.reg(rs2);
-                self.branch(slt(a, b), imm)
-            }
-            Op::Bge { rs1, rs2, imm } => {
-                let a = self.reg(rs1);
-                let b = self.reg(rs2);
-                self.branch(!slt(a, b), imm)
-            }
-            Op::Bltu { rs1, rs2, imm } => {
-                let a = self.reg(rs1);
-                let b = self.reg(rs2);
-                self.branch(sltu(a, b), imm)
-            }
-            Op::Bgeu { rs1, rs2, imm } => {
-                let a = self.reg(rs1);
-                let b = self.reg(rs2);
-                self.branch(!sltu(a, b), imm)
-            }
-            Op::Lb { rd, rs1, imm } => {
-                let a = self.reg(rs1);
-                let b = imm.cast_unsigned();
-                self.load_signed_byte(bus, rd, a.wrapping_add(b))
-            }
-            Op::Lh { rd, rs1, imm } => {
-                let a = self.reg(rs1);
-                let b = imm.cast_unsigned();
-                self.load_signed_half(bus, rd, a.wrapping_add(b))
-            }
-            Op::Lw { rd, rs1, imm } => {
-                let a = self.reg(rs1);
-                let b = imm.cast_unsigned();
-                self.load(bus, rd, a.wrapping_add(b), Width::Word)
-            }
-            Op::Lbu { rd, rs1, imm } => {
-                let a = self.reg(rs1);
-                let b = imm.cast_unsigned();
-                self.load(bus, rd, a.wrapping_add(b), Width::Byte)
-            }
-            Op::Lhu { rd, rs1, imm } => {
-                let a = self.reg(rs1);
-                let b = imm.cast_unsigned();
-                self.load(bus, rd, a.wrapping_add(b), Width::Half)
-            }
-            Op::Sb { rs1, rs2, imm } => {
-                let a = self.reg(rs1);
-                let b = imm.cast_unsigned();
-                let value = self.reg(rs2);
-                self.store(bus, a.wrapping_add(b), Width::Byte, value)
-            }
-            Op::Sh { rs1, rs2, imm } => {
-                let a = self.reg(rs1);
-                let b = imm.cast_unsigned();
-                let value = self.reg(rs2);
-                self.store(bus, a.wrapping_add(b), Width::Half, value)
-            }
-            Op::Sw { rs1, rs2, imm } => {
-                let a = self.reg(rs1);
-                let b = imm.cast_unsigned();
-                let value = self.reg(rs2);
-                self.store(bus, a.wrapping_add(b), Width::Word, value)
-            }
-            Op::Addi { rd, rs1, imm } => {
-                let a = self.reg(rs1);
-                let b = imm.cast_unsigned();
-                self.put_value(rd, a.wrapping_add(b))
-            }
-            Op::Slti { rd, rs1, imm } => {
-                let a = self.reg(rs1);
-                let b = imm.cast_unsigned();
-                self.put_value(rd, u32::from(slt(a, b)))
-            }
-            Op::Sltiu { rd, rs1, imm } => {
-                let a = self.reg(rs1);
-                let b = imm.cast_unsigned();
-                self.put_value(rd, u32::from(sltu(a, b)))
-            }
-            Op::Xori { rd, rs1, imm } => {
-                let a = self.reg(rs1);
-                let b = imm.cast_unsigned();
-                self.put_value(rd, a ^ b)
-            }
-            Op::Ori { rd, rs1, imm } => {
-                let a = self.reg(rs1);
-                let b = imm.cast_unsigned();
-                self.put_value(rd, a | b)
-            }
-            Op::Andi { rd, rs1, imm } => {
-                let a = self.reg(rs1);
-                let b = imm.cast_unsigned();
-                self.put_value(rd, a & b)
-            }
-            Op::Slli { rd, rs1, shamt } => {
-                let a = self.reg(rs1);
-                self.put_value(rd, sll(a, shamt))
-            }
-            Op::Srli { rd, rs1, shamt } => {
-                let a = self.reg(rs1);
-                self.put_value(rd, srl(a, shamt))
-            }
-            Op::Srai { rd, rs1, shamt } => {
-                let a = self.reg(rs1);
-                self.put_value(rd, sra(a, shamt))
-            }
-            Op::Add { rd, rs1, rs2 } => {
-                let a = self.reg(rs1);
-                let b = self.reg(rs2);
-                self.put_value(rd, a.wrapping_add(b))
-            }
-            Op::Sub { rd, rs1, rs2 } => {
-                let a = self.reg(rs1);
-                let b = self.reg(rs2);
-                self.put_value(rd, a.wrapping_sub(b))
-            }
-            Op::Sll { rd, rs1, rs2 } => {
-                let a = self.reg(rs1);
-                let b = self.reg(rs2);
-                self.put_value(rd, sll(a, b))
-            }
-            Op::Slt { rd, rs1, rs2 } => {
-                let a = self.reg(rs1);
-                let b = self.reg(rs2);
-                self.put_value(rd, u32::from(slt(a, b)))
-            }
-            Op::Sltu { rd, rs1, rs2 } => {
-                let a = self.reg(rs1);
-                let b = self.reg(rs2);
-                self.put_value(rd, u32::from(sltu(a, b)))
-            }
-            Op::Xor { rd, rs1, rs2 } => {
-                let a = self.reg(rs1);
-                let b = self.reg(rs2);
-                self.put_value(rd, a ^ b)
-            }
-            Op::Srl { rd, rs1, rs2 } => {
-                let a = self.reg(rs1);
-                let b = self.reg(rs2);
-                self.put_value(rd, srl(a, b))
-            }
-            Op::Sra { rd, rs1, rs2 } => {
-                let a = self.reg(rs1);
-                let b = self.reg(rs2);
-                self.put_value(rd, sra(a, b))
-            }
-            Op::Or { rd, rs1, rs2 } => {
-                let a = self.reg(rs1);
-                let b = self.reg(rs2);
-                self.put_value(rd, a | b)
-            }
-            Op::And { rd, rs1, rs2 } => {
-                let a = self.reg(rs1);
-                let b = self.reg(rs2);
-                self.put_value(rd, a & b)
-            }
-            Op::Mul { rd, rs1, rs2 } => {
-                let a = self.reg(rs1);
-                let b = self.reg(rs2);
-                self.put_value(rd, a.wrapping_mul(b))
-            }
-            Op::Mulh { rd, rs1, rs2 } => {
-                let a = self.reg(rs1);
-                let b = self.reg(rs2);
-                self.put_value(rd, mulh(a, b))
-            }
-            Op::Mulhsu { rd, rs1, rs2 } => {
-                let a = self.reg(rs1);
-                let b = self.reg(rs2);
-                self.put_value(rd, mulhsu(a, b))
-            }
-            Op::Mulhu { rd, rs1, rs2 } => {
-                let a = self.reg(rs1);
-                let b = self.reg(rs2);
-                self.put_value(rd, mulhu(a, b))
-            }
-            Op::Div { rd, rs1, rs2 } => {
-                let a = self.reg(rs1);
-                let b = self.reg(rs2);
-                self.put_value(rd, div(a, b))
-            }
-            Op::Divu { rd, rs1, rs2 } => {
-                let a = self.reg(rs1);
-                let b = self.reg(rs2);
-                self.put_value(rd, divu(a, b))
-            }
-            Op::Rem { rd, rs1, rs2 } => {
-                let a = self.reg(rs1);
-                let b = self.reg(rs2);
-                self.put_value(rd, rem(a, b))
-            }
-            Op::Remu { rd, rs1, rs2 } => {
-                let a = self.reg(rs1);
-                let b = self.reg(rs2);
-                self.put_value(rd, remu(a, b))
-            }
-            Op::Fence => self.go_on(),
-            Op::FenceI => self.go_on(),
-            Op::Csrrw { rd, csr, rs1 } => {
-                let a = self.reg(rs1);
-                self.csr_swap(view, word, rd, csr, a)
-            }
-            Op::Csrrs { rd, csr, rs1 } => {
-                let a = self.reg(rs1);
-                self.csr_set(view, word, rd, csr, a, rs1 != 0)
-            }
-            Op::Csrrc { rd, csr, rs1 } => {
-                let a = self.reg(rs1);
-                self.csr_clear(view, word, rd, csr, a, rs1 != 0)
-            }
-            Op::Csrrwi { rd, csr, zimm } => { self.csr_swap(view, word, rd, csr, zimm) }
-            Op::Csrrsi { rd, csr, zimm } => { self.csr_set(view, word, rd, csr, zimm, zimm != 0) }
-            Op::Csrrci { rd, csr, zimm } => { self.csr_clear(view, word, rd, csr, zimm, zimm != 0) }
+            Op::Auipc { rd, imm } => self.put_value(rd, self.pc.wrapping_add(imm.cast_unsigned())),
+            Op::Jal { rd, imm } => self.jump(rd, self.pc.wrapping_add(imm.cast_unsigned())),
+            Op::Jalr { rd, rs1, imm } => self.jump(rd, self.sum(rs1, imm) / 2 * 2),
+            Op::Beq { rs1, rs2, imm } => self.branch(self.reg(rs1) == self.reg(rs2), imm),
+            Op::Bne { rs1, rs2, imm } => self.branch(self.reg(rs1) != self.reg(rs2), imm),
+            Op::Blt { rs1, rs2, imm } => self.branch(slt(self.reg(rs1), self.reg(rs2)), imm),
+            Op::Bge { rs1, rs2, imm } => self.branch(!slt(self.reg(rs1), self.reg(rs2)), imm),
+            Op::Bltu { rs1, rs2, imm } => self.branch(sltu(self.reg(rs1), self.reg(rs2)), imm),
+            Op::Bgeu { rs1, rs2, imm } => self.branch(!sltu(self.reg(rs1), self.reg(rs2)), imm),
+            Op::Lb { rd, rs1, imm } => self.load_signed_byte(bus, rd, self.sum(rs1, imm)),
+            Op::Lh { rd, rs1, imm } => self.load_signed_half(bus, rd, self.sum(rs1, imm)),
+            Op::Lw { rd, rs1, imm } => self.load(bus, rd, self.sum(rs1, imm), Width::Word),
+            Op::Lbu { rd, rs1, imm } => self.load(bus, rd, self.sum(rs1, imm), Width::Byte),
+            Op::Lhu { rd, rs1, imm } => self.load(bus, rd, self.sum(rs1, imm), Width::Half),
+            Op::Sb { rs1, rs2, imm } => self.store(
+                bus,
+                self.sum(rs1, imm),
+                Width::Byte,
+                self.reg(rs2),
+            ),
+            Op::Sh { rs1, rs2, imm } => self.store(
+                bus,
+                self.sum(rs1, imm),
+                Width::Half,
+                self.reg(rs2),
+            ),
+            Op::Sw { rs1, rs2, imm } => self.store(
+                bus,
+                self.sum(rs1, imm),
+                Width::Word,
+                self.reg(rs2),
+            ),
+            Op::Addi { rd, rs1, imm } => self.put_value(rd, self.sum(rs1, imm)),
+            Op::Slti { rd, rs1, imm } => self.put_value(
+                rd,
+                u32::from(slt(self.reg(rs1), imm.cast_unsigned())),
+            ),
+            Op::Sltiu { rd, rs1, imm } => self.put_value(
+                rd,
+                u32::from(sltu(self.reg(rs1), imm.cast_unsigned())),
+            ),
+            Op::Xori { rd, rs1, imm } => self.put_value(rd, self.reg(rs1) ^ imm.cast_unsigned()),
+            Op::Ori { rd, rs1, imm } => self.put_value(rd, self.reg(rs1) | imm.cast_unsigned()),
+            Op::Andi { rd, rs1, imm } => self.put_value(rd, self.reg(rs1) & imm.cast_unsigned()),
+            Op::Slli { rd, rs1, shamt } => self.put_value(rd, sll(self.reg(rs1), shamt)),
+            Op::Srli { rd, rs1, shamt } => self.put_value(rd, srl(self.reg(rs1), shamt)),
+            Op::Srai { rd, rs1, shamt } => self.put_value(rd, sra(self.reg(rs1), shamt)),
+            Op::Add { rd, rs1, rs2 } => self.put_value(
+                rd,
+                self.reg(rs1).wrapping_add(self.reg(rs2)),
+            ),
+            Op::Sub { rd, rs1, rs2 } => self.put_value(
+                rd,
+                self.reg(rs1).wrapping_sub(self.reg(rs2)),
+            ),
+            Op::Sll { rd, rs1, rs2 } => self.put_value(rd, sll(self.reg(rs1), self.reg(rs2))),
+            Op::Slt { rd, rs1, rs2 } => self.put_value(
+                rd,
+                u32::from(slt(self.reg(rs1), self.reg(rs2))),
+            ),
+            Op::Sltu { rd, rs1, rs2 } => self.put_value(
+                rd,
+                u32::from(sltu(self.reg(rs1), self.reg(rs2))),
+            ),
+            Op::Xor { rd, rs1, rs2 } => self.put_value(rd, self.reg(rs1) ^ self.reg(rs2)),
+            Op::Srl { rd, rs1, rs2 } => self.put_value(rd, srl(self.reg(rs1), self.reg(rs2))),
+            Op::Sra { rd, rs1, rs2 } => self.put_value(rd, sra(self.reg(rs1), self.reg(rs2))),
+            Op::Or { rd, rs1, rs2 } => self.put_value(rd, self.reg(rs1) | self.reg(rs2)),
+            Op::And { rd, rs1, rs2 } => self.put_value(rd, self.reg(rs1) & self.reg(rs2)),
+            Op::Mul { rd, rs1, rs2 } => self.put_value(
+                rd,
+                self.reg(rs1).wrapping_mul(self.reg(rs2)),
+            ),
+            Op::Mulh { rd, rs1, rs2 } => self.put_value(rd, mulh(self.reg(rs1), self.reg(rs2))),
+            Op::Mulhsu { rd, rs1, rs2 } => self.put_value(rd, mulhsu(self.reg(rs1), self.reg(rs2))),
+            Op::Mulhu { rd, rs1, rs2 } => self.put_value(rd, mulhu(self.reg(rs1), self.reg(rs2))),
+            Op::Div { rd, rs1, rs2 } => self.put_value(rd, div(self.reg(rs1), self.reg(rs2))),
+            Op::Divu { rd, rs1, rs2 } => self.put_value(rd, divu(self.reg(rs1), self.reg(rs2))),
+            Op::Rem { rd, rs1, rs2 } => self.put_value(rd, rem(self.reg(rs1), self.reg(rs2))),
+            Op::Remu { rd, rs1, rs2 } => self.put_value(rd, remu(self.reg(rs1), self.reg(rs2))),
+            Op::Fence | Op::FenceI => self.go_on(),
+            Op::Csrrw { rd, csr, rs1 } => self.csr_swap(view, word, rd, csr, self.reg(rs1)),
+            Op::Csrrs { rd, csr, rs1 } => self.csr_set(
+                view,
+                word,
+                rd,
+                csr,
+                self.reg(rs1),
+                rs1 != 0,
+            ),
+            Op::Csrrc { rd, csr, rs1 } => self.csr_clear(
+                view,
+                word,
+                rd,
+                csr,
+                self.reg(rs1),
+                rs1 != 0,
+            ),
+            Op::Csrrwi { rd, csr, zimm } => self.csr_swap(view, word, rd, csr, zimm),
+            Op::Csrrsi { rd, csr, zimm } => self.csr_set(view, word, rd, csr, zimm, zimm != 0),
+            Op::Csrrci { rd, csr, zimm } => self.csr_clear(view, word, rd, csr, zimm, zimm != 0),
             Op::Ecall => Err(Exception {
                 cause: 11,
                 value: 0,

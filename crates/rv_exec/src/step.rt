@@ -1,7 +1,7 @@
 //! Steps.
-ghost use Rattle.std.specs.Prelude.{◌≡◌, ◌+◌, ◌*◌, ◌-◌, ◌/◌, ◌<◌, ◌≤◌, ◌^◌, ◌%◌, OnErr};
-ghost use Rattle.rv_exec.specs.declared.stepped.Stepped.TheVariants.{Trapped};
-ghost use Rattle.rv_exec.specs.Step.{step_of, awake, trap_hart, trapped, finished, decoded, fetched_step, idled};
+ghost use Rattle.std.specs.Prelude.{◌≡◌, ◌≢◌, ◌↔◌, Ok, false};
+ghost use Rattle.rv_exec.specs.declared.stepped.Stepped.TheVariants.{Idle, Trapped};
+ghost use Rattle.rv_exec.specs.Step.{is_busy, step_of, awake, trap_hart, trapped, finished, decoded, fetched_step, idled};
 
 use crate::bus::Bus;
 use crate::hart::Hart;
@@ -25,6 +25,7 @@ impl Hart {
     fn run_word<B: Bus>(&mut self, bus: &mut B, lines: Lines, word: u32) -> Stepped
         requires lines { lines ≡ B.bus.lines_of (B.bus_state bus.old) }
         requires ready { B.ready bus.old }
+        ensures busy { result ≢ Idle }
         ensures out { result ≡ (fetched_step B.bus self.old (B.bus_state bus.old) (Ok word)).out }
         ensures hart { self.new ≡ (fetched_step B.bus self.old (B.bus_state bus.old) (Ok word)).hart }
         ensures bus { B.bus_state bus.new ≡ (fetched_step B.bus self.old (B.bus_state bus.old) (Ok word)).bus }
@@ -56,6 +57,7 @@ impl Hart {
     fn run<B: Bus>(&mut self, bus: &mut B, lines: Lines) -> Stepped
         requires lines { lines ≡ B.bus.lines_of (B.bus_state bus.old) }
         requires ready { B.ready bus.old }
+        ensures busy { result ≢ Idle }
         ensures out { result ≡ (awake B.bus self.old (B.bus_state bus.old)).out }
         ensures hart { self.new ≡ (awake B.bus self.old (B.bus_state bus.old)).hart }
         ensures bus { B.bus_state bus.new ≡ (awake B.bus self.old (B.bus_state bus.old)).bus }
@@ -70,9 +72,11 @@ impl Hart {
         }
     }
 
-    /// One step.
+    /// One step: the six cases in their order. Idle exactly where the next step was not busy. It takes no
+    /// memory.
     pub fn step<B: Bus>(&mut self, bus: &mut B) -> Stepped
         requires ready { B.ready bus.old }
+        ensures idle { (result ≡ Idle) ↔ (is_busy self.old (B.bus.lines_of (B.bus_state bus.old)) (B.bus.is_stopped (B.bus_state bus.old)) ≡ false) }
         ensures out { result ≡ (step_of B.bus self.old (B.bus_state bus.old)).out }
         ensures hart { self.new ≡ (step_of B.bus self.old (B.bus_state bus.old)).hart }
         ensures bus { B.bus_state bus.new ≡ (step_of B.bus self.old (B.bus_state bus.old)).bus }
