@@ -1,21 +1,16 @@
 -- What stands in a sink after one more put.
-use Rattle.std.proofs.Common.{◌≡◌, ℕ, List, [], ◌∷◌, ◌++◌, Option, Some, None, Bool, true, false, IfSome, refl, sym, ap, ◌∙◌, subst, append_assoc, length, take, drop, get_or, ◌+◌, ◌<◌}
+use Rattle.std.proofs.Common.{◌≡◌, ℕ, List, [], ◌∷◌, ◌++◌, Option, Some, None, Bool, true, false, refl, sym, ap, ◌∙◌, subst, append_assoc, length, take, drop, get_or, ◌+◌, ◌<◌}
 use Rattle.std.proofs.lemmas.List.{append-nil, take_more, take-append-drop}
 use Rattle.std.proofs.lemmas.Grind.{flat_map-append}
 use Rattle.std.specs.List.{flat_map}
 use Rattle.trace_rec.specs.declared.rec.Rec.{Rec}
 use Rattle.trace_rec.specs.Lines.{rec_line}
 use Rattle.tb_io.specs.Puts.{Takes, TakesPart}
+use Rattle.tb_io.proofs.Parts.{takes_more}
 use Rattle.host_journal.specs.Standing.{Stands, Adds}
 use Rattle.host_journal.specs.Texts.{rec_lines, head_line, entry_lines, journal_text}
 use Rattle.host_journal.specs.Entries.{Entry}
 use Rattle.host_journal.specs.declared.head.Head.{Head}
-
-pub takes_more : (a b c : Option (List ℕ)) (x y : List ℕ) → Takes a b x → Takes b c y → Takes a c (x ++ y)
-takes_more None b c x y h k = tt
-takes_more (Some o) b c x y h k =
-    let k' : c ≡ Some ((o ++ x) ++ y) = subst (λ (z : Option (List ℕ)). IfSome z (λ p. c ≡ Some (p ++ y))) h k in
-    k' ∙ ap Some (append_assoc o x y)
 
 pub part_more : (a b c : Option (List ℕ)) (x y : List ℕ) → Takes a b x → TakesPart b c y → TakesPart a c (x ++ y)
 part_more a b c x y h k =
@@ -98,3 +93,8 @@ pub stands_start : (f g : Bool) (a b : Option (List ℕ)) (h : Head) → f ≡ f
 unfolding journal_text
 stands_start false g a b h e p = subst (λ (z : List ℕ). Stands g a b z) (sym (append-nil (head_line h))) (p a [] (takes_none a))
 stands_start true g a b h e p = absurd (cc)
+
+-- what was taken is in any case a prefix of the text
+pub stands_part : (f : Bool) (before now : Option (List ℕ)) (text : List ℕ) → Stands f before now text → TakesPart before now text
+stands_part false before now text s = (text, record { rest = []; whole = sym (append-nil text) }, s)
+stands_part true before now text s = s

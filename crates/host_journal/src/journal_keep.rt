@@ -2,9 +2,9 @@
 ghost use Rattle.std.specs.Prelude.{◌≡◌, ◌<◌, ◌++◌, ℕ, List, [], ◌∷◌, Option, length, true, false, IfOk, OnOk, OnErr};
 ghost use Rattle.host_journal.specs.Causes.{KeepCause};
 ghost use Rattle.host_journal.specs.Entries.{Entry, Host, Slot, Ran, End};
-ghost use Rattle.host_journal.specs.Keepers.{head_of, has_failed};
-ghost use Rattle.host_journal.specs.Standing.{Stands, Adds};
-ghost use Rattle.host_journal.specs.Texts.{rec_lines, journal_text};
+ghost use Rattle.host_journal.specs.Keepers.{head_of, has_failed, StandsFor};
+ghost use Rattle.host_journal.specs.Standing.{Adds};
+ghost use Rattle.host_journal.specs.Texts.{rec_lines};
 
 use crate::head::Head;
 use crate::keep::{Keep, KeepErr};
@@ -41,7 +41,7 @@ impl JournalKeep {
 
     /// Puts the head line. It is called once, before every other call.
     pub fn start<O: Sink>(&mut self, out: &mut O) -> Result<(), KeepErr>
-        ensures stands { has_failed self.old ≡ false → Stands (has_failed self.new) (O.taken out.old) (O.taken out.new) (journal_text (head_of self.old) []) }
+        ensures stands { has_failed self.old ≡ false → StandsFor self.new (O.taken out.old) (O.taken out.new) [] }
         ensures head { head_of self.new ≡ head_of self.old }
         ensures ok { OnOk result ((has_failed self.old ≡ false) × (has_failed self.new ≡ false)) }
         ensures err { OnErr result (has_failed self.new ≡ true) }
@@ -55,7 +55,7 @@ impl JournalKeep {
 
     /// Puts the end line. It is called at most once, after every other call.
     pub fn finish<O: Sink>(&mut self, out: &mut O) -> Result<(), KeepErr>
-        ensures stands { (before : Option (List ℕ)) (es : List Entry) → Stands (has_failed self.old) before (O.taken out.old) (journal_text (head_of self.old) es) → Stands (has_failed self.new) before (O.taken out.new) (journal_text (head_of self.old) (es ++ End ∷ [])) }
+        ensures stands { (before : Option (List ℕ)) (es : List Entry) → StandsFor self.old before (O.taken out.old) es → StandsFor self.new before (O.taken out.new) (es ++ End ∷ []) }
         ensures head { head_of self.new ≡ head_of self.old }
         ensures ok { OnOk result ((has_failed self.old ≡ false) × (has_failed self.new ≡ false)) }
         ensures err { OnErr result (has_failed self.new ≡ true) }
@@ -121,18 +121,16 @@ fn put_recs<O: Sink>(
 
 impl<O: Sink> Keep<O> for JournalKeep {
     ghost use Rattle.std.specs.Prelude.{length};
-    ghost use Rattle.host_journal.specs.Keepers.{head_of, has_failed};
-    ghost use Rattle.host_journal.specs.Standing.{Stands};
-    ghost use Rattle.host_journal.specs.Texts.{journal_text};
+    ghost use Rattle.host_journal.specs.Keepers.{head_of, StandsFor};
 
-    ghost keeps = { λ keep before now es. Stands (has_failed keep) before now (journal_text (head_of keep) es) };
+    ghost keeps = { StandsFor };
 
     ghost members = { λ keep. length (head_of keep).names.items };
 
     ghost head = { head_of };
 
     fn host(&mut self, out: &mut O, t: u64) -> Result<(), KeepErr>
-        ensures adds { (before : Option (List ℕ)) (es : List Entry) → Stands (has_failed self.old) before (O.taken out.old) (journal_text (head_of self.old) es) → Stands (has_failed self.new) before (O.taken out.new) (journal_text (head_of self.new) (es ++ Host t ∷ [])) }
+        ensures adds { (before : Option (List ℕ)) (es : List Entry) → StandsFor self.old before (O.taken out.old) es → StandsFor self.new before (O.taken out.new) (es ++ Host t ∷ []) }
         ensures members { length (head_of self.new).names.items ≡ length (head_of self.old).names.items }
         ensures head { head_of self.new ≡ head_of self.old }
         ensures cause { KeepCause (O.faults out.old) (O.faults out.new) result }
@@ -146,7 +144,7 @@ impl<O: Sink> Keep<O> for JournalKeep {
     }
 
     fn slot(&mut self, out: &mut O, s: u32) -> Result<(), KeepErr>
-        ensures adds { (before : Option (List ℕ)) (es : List Entry) → Stands (has_failed self.old) before (O.taken out.old) (journal_text (head_of self.old) es) → Stands (has_failed self.new) before (O.taken out.new) (journal_text (head_of self.new) (es ++ Slot s ∷ [])) }
+        ensures adds { (before : Option (List ℕ)) (es : List Entry) → StandsFor self.old before (O.taken out.old) es → StandsFor self.new before (O.taken out.new) (es ++ Slot s ∷ []) }
         ensures members { length (head_of self.new).names.items ≡ length (head_of self.old).names.items }
         ensures head { head_of self.new ≡ head_of self.old }
         ensures cause { KeepCause (O.faults out.old) (O.faults out.new) result }
@@ -161,7 +159,7 @@ impl<O: Sink> Keep<O> for JournalKeep {
 
     fn quantum(&mut self, out: &mut O, q: &Quantum, recs: &Log) -> Result<(), KeepErr>
         requires { q.now.guest < length (head_of self.old).names.items }
-        ensures adds { (before : Option (List ℕ)) (es : List Entry) → Stands (has_failed self.old) before (O.taken out.old) (journal_text (head_of self.old) es) → Stands (has_failed self.new) before (O.taken out.new) (journal_text (head_of self.new) (es ++ Ran q.now recs.now.items ∷ [])) }
+        ensures adds { (before : Option (List ℕ)) (es : List Entry) → StandsFor self.old before (O.taken out.old) es → StandsFor self.new before (O.taken out.new) (es ++ Ran q.now recs.now.items ∷ []) }
         ensures members { length (head_of self.new).names.items ≡ length (head_of self.old).names.items }
         ensures head { head_of self.new ≡ head_of self.old }
         ensures cause { KeepCause (O.faults out.old) (O.faults out.new) result }

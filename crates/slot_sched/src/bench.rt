@@ -101,14 +101,18 @@ impl<N: Node> Bench<N> {
 
     /// Makes the next host tick: each slot has its turn, in rising order. The bench has not failed,
     /// and has made fewer than 1,000,000 host ticks. After an error it has failed.
-    pub fn host_tick<O: Sink, K: Keep<O>>(&mut self, keep: &mut K, out: &mut O) -> Result<(), TickFault>
+    pub fn host_tick<O: Sink, K: Keep<O>>(
+        &mut self,
+        keep: &mut K,
+        out: &mut O,
+    ) -> Result<(), TickFault>
         requires going { bench_failed self.old ≡ false }
         requires few { ticks_made self.old < 1000000 }
         requires members { members_of self.old ≤ K.members keep.old }
         ensures came { (x : Setup N.State) (n : ℕ) (at : At) (was : Option (List ℕ)) (es : List Entry) →
             BenchStands x self.old n → IsAtTick x self.old n at → ticks_made self.old + 1 ≤ n → K.keeps keep.old was (O.taken out.old) es →
             Came (rules N.motion x (plan_of self.old n)) (K.keeps keep.new was (O.taken out.new)) at es
-              (λ there. IfOk result (λ _. BenchStands x self.new n × IsAtTick x self.new n there)) }
+            (λ there. IfOk result (λ _. BenchStands x self.new n × IsAtTick x self.new n there)) }
         ensures put { OnOk result ((x : Setup N.State) (n : ℕ) → BenchStands x self.old n → BenchStands x self.new n → IsPut x self.new) }
         ensures made { OnOk result (ticks_made self.new ≡ ticks_made self.old + 1) }
         ensures plan { (n : ℕ) → plan_of self.new n ≡ plan_of self.old n }
@@ -144,7 +148,12 @@ impl<N: Node> Bench<N> {
     ///
     /// Of a bench that has made none, what is kept is a legal journal, and one that comes to its end
     /// with the entry of the end.
-    pub fn run<O: Sink, K: Keep<O>>(&mut self, keep: &mut K, out: &mut O, ticks: u64) -> Result<(), TickFault>
+    pub fn run<O: Sink, K: Keep<O>>(
+        &mut self,
+        keep: &mut K,
+        out: &mut O,
+        ticks: u64,
+    ) -> Result<(), TickFault>
         requires going { bench_failed self.old ≡ false }
         requires few { ticks_made self.old + ticks ≤ 1000000 }
         requires members { members_of self.old ≤ K.members keep.old }

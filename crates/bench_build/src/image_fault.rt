@@ -1,0 +1,8 @@
+//! Why an image is refused.
+
+/// Why an image was not put into a guest's RAM.
+#[derive(Clone, Copy, Debug, PartialEq, Eq)]
+pub enum ImageFault {
+    /// A flat image is longer than the guest's RAM.
+    TooLong,
+}

@@ -1,0 +1,5 @@
+pub mod BusOf
+pub mod Ends
+pub mod HartState
+pub mod Meaning
+pub mod Step

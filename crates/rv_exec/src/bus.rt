@@ -1,0 +1,46 @@
+//! What a hart is joined to.
+ghost use Rattle.std.specs.Prelude.{◌≡◌, ℕ, MatchResult};
+ghost use Rattle.rv_exec.specs.BusOf.{BusOf};
+
+use csr_file::Lines;
+use guest_ram::MemFault;
+use tb_base::Width;
+
+/// What a hart is joined to.
+pub trait Bus {
+    ghost State: { Type 0 };
+
+    ghost bus_state: { Self → State };
+
+    ghost bus: { BusOf State };
+
+    ghost ready: { Self → Type 0 };
+
+    fn fetch(&self, pc: u32) -> Result<u32, MemFault>
+        requires { ready self.now }
+        ensures { result ≡ bus.fetched (bus_state self.now) pc };
+
+    fn load(&mut self, addr: u32, width: Width) -> Result<u32, MemFault>
+        requires { ready self.old }
+        ensures ready { ready self.new }
+        ensures answer { result ≡ bus.loaded (bus_state self.old) addr width }
+        ensures same { bus_state self.new ≡ bus_state self.old };
+
+    fn store(&mut self, addr: u32, width: Width, value: u32) -> Result<(), MemFault>
+        requires { ready self.old }
+        ensures ready { ready self.new }
+        ensures stored { MatchResult result (λ _. bus.stored (bus_state self.old) addr width value ≡ Ok (bus_state self.new)) (λ e. bus.stored (bus_state self.old) addr width value ≡ Err e) }
+        ensures refused { MatchResult result (λ _. Unit {0}) (λ _. bus_state self.new ≡ bus_state self.old) };
+
+    fn lines(&self) -> Lines
+        requires { ready self.now }
+        ensures { result ≡ bus.lines_of (bus_state self.now) };
+
+    fn now(&self) -> u64
+        requires { ready self.now }
+        ensures { result ≡ bus.now_of (bus_state self.now) };
+
+    fn stopped(&self) -> bool
+        requires { ready self.now }
+        ensures { result ≡ bus.is_stopped (bus_state self.now) };
+}
