@@ -1,13 +1,13 @@
 -- The first that is best, of what was looked at so far.
-use Rattle.std.proofs.Common.{◌≡◌, ℕ, ◌<◌, ◌≤◌, ◌+◌, ◌&&◌, ◌||◌, not, nat_le, Bool, true, false, List, length, get_or, Option, Some, None, IfSome, IfNone, refl, sym, ap, ◌∙◌, arith, subst}
+use Rattle.std.proofs.Common.{set, suc, cond, count_by, [], ◌∷◌, ◌-◌, ◌≡◌, ℕ, ◌<◌, ◌≤◌, ◌+◌, ◌&&◌, ◌||◌, not, nat_le, Bool, true, false, List, length, get_or, Option, Some, None, IfSome, IfNone, refl, sym, ap, ◌∙◌, arith, subst}
 use Rattle.std.proofs.lemmas.Bool.{false≢true}
 use Rattle.std.proofs.lemmas.Bool.Decides.{nat_tests}
 use Rattle.std.proofs.lemmas.List.{get_or_default}
-use Rattle.std.proofs.lemmas.List.Sums.{position_or_len_is, AllPass-from_list_all, list_all-from_AllPass}
+use Rattle.std.proofs.lemmas.List.Sums.{sum_by-cons, sum_by-set, position_or_len_is, AllPass-from_list_all, list_all-from_AllPass}
 use Rattle.std.specs.List.{position_or_len, list_all}
 use Rattle.host_plan.specs.declared.load.Load.{Load}
 use Rattle.host_plan.specs.declared.seat.Seat.{Seat}
-use Rattle.host_plan.specs.Placing.{is_free, is_next, next, has_room, first_room, is_roomiest}
+use Rattle.host_plan.specs.Placing.{is_free, free_count, is_next, next, has_room, first_room, is_roomiest}
 
 abbrev pub seat_at : List Seat → ℕ → Seat
 seat_at seats i = get_or seats i (record { rate = 0; home = None })
@@ -118,3 +118,24 @@ best_some seats i (Some b) e h = (let under = h.within in omega (arith, under, e
 pub best_none : (seats : List Seat) (i : ℕ) (best : Option ℕ) → i ≡ length seats → IsBestBefore seats i best → IfNone best (next seats ≡ length seats)
 best_none seats i None e h = next_none seats (λ k low. h k (omega (arith, low, e)))
 best_none seats i (Some b) e h = tt
+
+uncounted : {X : Type 0} (p : X → Bool) (xs : List X) → ((k : ℕ) (d : X) → k < length xs → p (get_or xs k d) ≡ false) → count_by p xs ≡ 0
+uncounted p [] none = refl
+uncounted p (x ∷ xs) none =
+    let head : p x ≡ false = none 0 x (omega arith) in
+    let tail : count_by p xs ≡ 0 = uncounted p xs (λ k d h. none (suc k) d (omega (arith, h))) in
+    let all : count_by p (x ∷ xs) ≡ cond (p x) 1 0 + count_by p xs = sum_by-cons (λ y. cond (p y) 1 0) x xs in
+    let zero_here = ap (λ t. cond {A = ℕ} t 1 0) head in
+    omega (arith, tail, all, zero_here)
+
+pub best_left : (seats : List Seat) (i : ℕ) (best : Option ℕ) → i ≡ length seats → IsBestBefore seats i best → IfNone best (free_count seats ≡ 0)
+best_left seats i None e h = uncounted is_free seats (λ k d low. ap is_free (get_or_default seats k d (record { rate = 0; home = None }) low) ∙ h k (omega (arith, low, e)))
+best_left seats i (Some b) e h = tt
+
+-- one guest more placed leaves one less
+pub one_left : (seats : List Seat) (i s : ℕ) → i < length seats → is_free (seat_at seats i) ≡ true
+    → free_count (set seats i (record { rate = (seat_at seats i).rate; home = Some s })) ≤ free_count seats - 1
+one_left seats i s h free =
+    let sums = sum_by-set (λ (x : Seat). cond {A = ℕ} (is_free x) 1 0) seats i (record { rate = (seat_at seats i).rate; home = Some s }) (record { rate = 0; home = None }) h in
+    let was = ap (λ t. cond {A = ℕ} t 1 0) free in
+    omega (arith, sums, was)

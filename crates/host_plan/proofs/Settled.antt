@@ -7,7 +7,7 @@ use Rattle.std.proofs.lemmas.List.Elements.{All-map}
 use Rattle.std.proofs.lemmas.Nat.{mul-le}
 use Rattle.std.proofs.lemmas.Option.{slice_get-get_or}
 use Rattle.std.proofs.lemmas.List.FromFn.{map-range_with_len_more, length-map-range_with_len, get_or-map-range_with_len}
-use Rattle.std.proofs.lemmas.List.Sums.{passes_at_first}
+use Rattle.std.proofs.lemmas.List.Sums.{passes_at_first, count_by-le-length}
 use Rattle.std.specs.List.{range_with_len}
 use Rattle.std.specs.Option.{is_none, unwrap_or}
 use Rattle.exp_file.specs.declared.experiment.Experiment.{Experiment}
@@ -17,7 +17,7 @@ use Rattle.host_plan.specs.declared.load.Load.{Load}
 use Rattle.host_plan.specs.declared.seat.Seat.{Seat}
 use Rattle.host_plan.specs.Bounds.{AreSeats, AreLoads}
 use Rattle.host_plan.specs.Fits.{have, capacity, capacity_if, IsPlacement}
-use Rattle.host_plan.specs.Placing.{is_at, is_free, is_next, next, need_so_far, load_of, loads_of, seat_of, settle, settled, seated, home_of, placed}
+use Rattle.host_plan.specs.Placing.{is_at, is_free, free_count, is_next, next, need_so_far, load_of, loads_of, seat_of, settle, settled, seated, home_of, placed}
 use Rattle.host_plan.proofs.Firsts.{seat_at, load_at}
 use Rattle.host_plan.proofs.Sums.{taken, need-set, need-le}
 
@@ -35,6 +35,12 @@ next_free seats i h e =
     let passes : is_next seats (seat_at seats (next seats)) ≡ true = passes_at_first (is_next seats) seats (record { rate = 0; home = None }) (omega (arith, h, e)) in
     let here : is_next seats (seat_at seats i) ≡ true = subst (λ z. is_next seats (seat_at seats z) ≡ true) e passes in
     none_home (seat_at seats i).home (first_part (is_free (seat_at seats i)) _ here)
+
+pub is_left : (x : Seat) → x.home ≡ None → is_free x ≡ true
+is_left x h = ap is_none h
+
+pub none_left : (e : Experiment) (seats : List Seat) → seats ≡ seated e → free_count seats ≡ 0 → free_count (seated e) ≡ 0
+none_left e seats same h = ap free_count (sym same) ∙ h
 
 taken_none : (x : Seat) (k : ℕ) → x.home ≡ None → taken k x ≡ 0
 taken_none x k h = ap (λ (o : Option ℕ). cond (is_at k o) x.rate 0) h
@@ -139,6 +145,7 @@ pub record IsSettling (e : Experiment) (seats : List Seat) (ls : List Load) (k :
   pub full : ls ≡ loads_of e seats
   pub bounded : AreSeats seats
   pub len : length seats ≡ length e.guests.items
+  pub left : free_count seats ≤ length e.guests.items - k
   pub homes : All (λ x. IfSome x.home (λ s. s < length e.slots.items)) seats
 
 pub settling_starts : (e : Experiment) (seats : List Seat) (ls : List Load) → IsWellFormed e → seats ≡ map seat_of e.guests.items → ls ≡ loads_of e seats → IsSettling e seats ls 0
@@ -148,6 +155,7 @@ settling_starts e seats ls well same full = record {
   full = full;
   bounded = seats_bounded e seats well same;
   len = ap length same ∙ length-map e.guests.items seat_of;
+  left = let few = count_by-le-length is_free seats in let len = ap length same ∙ length-map e.guests.items seat_of in omega (arith, few, len);
   homes = subst (λ z. All (λ (x : Seat). IfSome x.home (λ s. s < length e.slots.items)) z) (sym same)
       (All-map (λ (x : Seat). IfSome x.home (λ s. s < length e.slots.items)) seat_of e.guests.items (λ k d h. (well.guests k d h).slot));
 }
@@ -161,14 +169,15 @@ unfolding settled
 settled_none e n seats h = ap (λ z. settled e z seats) h
 
 pub settling_goes : (e : Experiment) (seats new : List Seat) (ls more : List Load) (k : ℕ) → IsSettling e seats ls k → k < length e.guests.items → new ≡ settle ls seats → more ≡ loads_of e new → AreSeats new
-    → length new ≡ length seats → All (λ x. IfSome x.home (λ s. s < length e.slots.items)) new → IsSettling e new more (k + 1)
-settling_goes e seats new ls more k so h settles full bounded len homes = record {
+    → length new ≡ length seats → free_count new ≤ free_count seats - 1 → All (λ x. IfSome x.home (λ s. s < length e.slots.items)) new → IsSettling e new more (k + 1)
+settling_goes e seats new ls more k so h settles full bounded len less homes = record {
   rest =
       ap (settled e (length e.guests.items - (k + 1))) (settles ∙ ap (λ z. settle z seats) so.full)
       ∙ sym (settled_more e (length e.guests.items - k) (length e.guests.items - (k + 1)) seats (omega arith)) ∙ so.rest;
   full = full;
   bounded = bounded;
   len = len ∙ so.len;
+  left = let before = so.left in omega (arith, before, less, h);
   homes = homes;
 }
 
@@ -200,12 +209,12 @@ written n new rest h = take_at new rest n (sym h)
 
 -- the same step by slices of the two vectors
 pub settling_step : (e : Experiment) (seats old new after : List Seat) (ls full more loaded : List Load) (k : ℕ) → IsSettling e seats ls k → k < length e.guests.items → old ≡ seats → full ≡ ls → new ≡ settle full old
-    → ((x : Experiment) → full ≡ loads_of x old → more ≡ loads_of x new) → AreSeats new → length new ≡ length old
+    → ((x : Experiment) → full ≡ loads_of x old → more ≡ loads_of x new) → AreSeats new → length new ≡ length old → free_count new ≤ free_count old - 1
     → ((n : ℕ) → n ≡ length full → All (λ x. IfSome x.home (λ s. s < n)) old → All (λ x. IfSome x.home (λ s. s < n)) new)
     → after ≡ new → loaded ≡ more → IsSettling e after loaded (k + 1)
-settling_step e seats old new after ls full more loaded k so h same same_full settles loads bounded len homes is_new is_more =
+settling_step e seats old new after ls full more loaded k so h same same_full settles loads bounded len less homes is_new is_more =
     let full_is : full ≡ loads_of e old = same_full ∙ so.full ∙ ap (loads_of e) (sym same) in
-    let next : IsSettling e new more (k + 1) = settling_goes e seats new ls more k so h (settles ∙ ap (λ z. settle z old) same_full ∙ ap (settle ls) same) (loads e full_is) bounded (len ∙ ap length same)
+    let next : IsSettling e new more (k + 1) = settling_goes e seats new ls more k so h (settles ∙ ap (λ z. settle z old) same_full ∙ ap (settle ls) same) (loads e full_is) bounded (len ∙ ap length same) (subst (λ z. free_count new ≤ free_count z - 1) same less)
     (homes (length e.slots.items) (sym (loads-len e old full full_is)) (subst (λ z. All (λ (x : Seat). IfSome x.home (λ s. s < length e.slots.items)) z) (sym same) so.homes)) in
     subst (λ z. IsSettling e z loaded (k + 1)) (sym is_new) (subst (λ z. IsSettling e new z (k + 1)) (sym is_more) next)
 

@@ -1,7 +1,7 @@
 -- The rule by which guests are placed. A guest with a given slot stands there. The others are taken by falling rate, those of one rate in their order; each goes to the
 -- first slot on which it still fits, else to the one that has most left, where less than nothing may be left.
 use Rattle.std.specs.Prelude.{◌==◌, ℕ, zero, suc, ◌+◌, ◌&&◌, ◌||◌, not, nat_le, nat_lt, Bool, false, List, map, length, Option, Some, None, slice_get, slice_set, if◌then◌else◌}
-use Rattle.std.specs.List.{filter, sum, list_all, position_or_len, range_with_len}
+use Rattle.std.specs.List.{filter, sum, count_by, list_all, position_or_len, range_with_len}
 use Rattle.std.specs.Option.{is_none, unwrap_or}
 use Rattle.exp_file.specs.declared.experiment.Experiment.{Experiment}
 use Rattle.exp_file.specs.declared.guest_spec.GuestSpec.{GuestSpec}
@@ -14,6 +14,10 @@ seat_of g = record { rate = g.rate; home = g.slot }
 
 abbrev pub is_free : Seat → Bool
 is_free x = is_none x.home
+
+-- how many have no slot yet
+abbrev pub free_count : List Seat → ℕ
+free_count seats = count_by is_free seats
 
 -- a guest without a slot that no other such guest exceeds in rate
 abbrev pub is_next : List Seat → Seat → Bool

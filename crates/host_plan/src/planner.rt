@@ -1,11 +1,11 @@
 //! The rule by which guests are placed.
-ghost use Rattle.std.specs.Prelude.{◌≡◌, ◌≤◌, ◌<◌, ◌||◌, ◌&&◌, nat_lt, map, length, ℕ, All, Some, None, IfOk, IfSome, IfNone, true, false};
+ghost use Rattle.std.specs.Prelude.{◌≡◌, ◌≤◌, ◌<◌, ◌-◌, ◌||◌, ◌&&◌, nat_lt, map, length, ℕ, All, Some, None, IfOk, IfSome, IfNone, true, false};
 ghost use Rattle.std.specs.List.{position_or_len};
 ghost use Rattle.exp_file.specs.WellFormed.{IsWellFormed};
 ghost use Rattle.exp_file.specs.declared.experiment.Experiment.{Experiment};
 ghost use Rattle.host_plan.specs.Bounds.{AreSeats, AreLoads, rate_at};
 ghost use Rattle.host_plan.specs.Fits.{IsPlacement};
-ghost use Rattle.host_plan.specs.Placing.{next, loads_of, has_room, is_roomiest, first_room, choice, settle, home_of, placed, seated};
+ghost use Rattle.host_plan.specs.Placing.{next, loads_of, has_room, is_roomiest, first_room, choice, settle, home_of, placed, seated, free_count};
 
 use crate::load::Load;
 use crate::placement::Placement;
@@ -32,6 +32,7 @@ fn is_faster(seats: &[Seat], best: Option<usize>, i: usize) -> bool
 fn next_free(seats: &[Seat]) -> Option<usize>
     ensures some { IfSome result (λ i. (i < length seats.now) × (next seats.now ≡ i)) }
     ensures none { IfNone result (next seats.now ≡ length seats.now) }
+    ensures left { IfNone result (free_count seats.now ≡ 0) }
 {
     let mut best = None;
     for i in 0..seats.len() {
@@ -92,6 +93,7 @@ fn settle_next(seats: &mut [Seat], loads: &mut [Load])
     ensures seats { seats.new ≡ settle loads.old seats.old }
     ensures kept { AreSeats seats.new }
     ensures len { length seats.new ≡ length seats.old }
+    ensures left { free_count seats.new ≤ free_count seats.old - 1 }
     ensures homes { (n : ℕ) → n ≡ length loads.old → All (λ x. IfSome x.home (λ s. s < n)) seats.old → All (λ x. IfSome x.home (λ s. s < n)) seats.new }
     ensures loads { (e : Experiment) → loads.old ≡ loads_of e seats.old → loads.new ≡ loads_of e seats.new }
 {
@@ -108,6 +110,7 @@ fn seat_all(alloc: Global, e: &Experiment) -> Result<Vec<Seat>, NoMemory>
     requires { IsWellFormed e.now }
     ensures seated { IfOk result (λ seats. seats.items ≡ seated e.now) }
     ensures len { IfOk result (λ seats. length seats.items ≡ length e.now.guests.items) }
+    ensures left { IfOk result (λ seats. free_count seats.items ≡ 0) }
     ensures homes { IfOk result (λ seats. All (λ x. IfSome x.home (λ s. s < length e.now.slots.items)) seats.items) }
 {
     let mut seats = seats_of(alloc, e.guests.as_slice())?;
@@ -126,6 +129,7 @@ pub fn place(alloc: Global, e: &Experiment) -> Result<Placement, NoMemory>
     requires { IsWellFormed e.now }
     ensures placed { IfOk result (λ p. p.slots.items ≡ placed e.now) }
     ensures placement { IfOk result (λ p. IsPlacement e.now p.slots.items) }
+    ensures all { IfOk result (λ _. free_count (seated e.now) ≡ 0) }
 {
     let seats = seat_all(alloc, e)?;
     let mut slots = ItemList::new(alloc);

@@ -16,7 +16,7 @@ struct Case {
 
 const CASES: [Case; 4] = [
     Case {
-        text: "version = 1\nfactor = 1\nslot = [{ capacity = 8 }, { capacity = 8 }]\nguest = [{ name = 'a', image = 'a', rate = 6 }, { name = 'b', image = 'b', rate = 5 }, { name = 'c', image = 'c', rate = 4 }]\n",
+        text: "version = 1\nfactor = 1\nslot = [{ capacity = 8 }, { capacity = 8 }]\nguest = [{ name = 'a', image = 'a', format = 'flat', rate = 6 }, { name = 'b', image = 'b', format = 'flat', rate = 5 }, { name = 'c', image = 'c', format = 'flat', rate = 4 }]\n",
         homes: &[0, 1, 1],
         need: 6,
         fit: Err(Overload {
@@ -27,7 +27,7 @@ const CASES: [Case; 4] = [
         least: Least { factor: 2, slot: 1 },
     },
     Case {
-        text: "version = 1\nfactor = 2\nslot = [{ capacity = 1 }]\nguest = [{ name = 'a', image = 'a', rate = 3, slot = 0 }]\n",
+        text: "version = 1\nfactor = 2\nslot = [{ capacity = 1 }]\nguest = [{ name = 'a', image = 'a', format = 'flat', rate = 3, slot = 0 }]\n",
         homes: &[0],
         need: 3,
         fit: Err(Overload {
@@ -38,14 +38,14 @@ const CASES: [Case; 4] = [
         least: Least { factor: 3, slot: 0 },
     },
     Case {
-        text: "version = 1\nfactor = 2\nslot = [{ capacity = 4 }]\nguest = [{ name = 'a', image = 'a', rate = 3 }, { name = 'b', image = 'b', rate = 3 }, { name = 'c', image = 'c', rate = 2 }]\n",
+        text: "version = 1\nfactor = 2\nslot = [{ capacity = 4 }]\nguest = [{ name = 'a', image = 'a', format = 'flat', rate = 3 }, { name = 'b', image = 'b', format = 'flat', rate = 3 }, { name = 'c', image = 'c', format = 'flat', rate = 2 }]\n",
         homes: &[0, 0, 0],
         need: 8,
         fit: Ok(()),
         least: Least { factor: 2, slot: 0 },
     },
     Case {
-        text: "version = 1\nfactor = 1\nslot = [{ capacity = 2 }, { capacity = 3 }]\nguest = [{ name = 'a', image = 'a', rate = 1 }, { name = 'b', image = 'b', rate = 2 }, { name = 'c', image = 'c', rate = 1, slot = 0 }]\n",
+        text: "version = 1\nfactor = 1\nslot = [{ capacity = 2 }, { capacity = 3 }]\nguest = [{ name = 'a', image = 'a', format = 'flat', rate = 1 }, { name = 'b', image = 'b', format = 'flat', rate = 2 }, { name = 'c', image = 'c', format = 'flat', rate = 1, slot = 0 }]\n",
         homes: &[0, 1, 0],
         need: 2,
         fit: Ok(()),

@@ -19,7 +19,7 @@ settle_next-requires-clause-loads c =
 pub loop-preserved : goal.loop-preserved
 loop-preserved c =
     settling_step c.args.e.now c.loop.seats.items c.deref_mut.result.now c.settle_next.new.seats _ c.loop.loads.items c.deref_mut-in-loop.result.now c.settle_next.new.loads _ c.loop.counter c.loop.invariant
-    (omega arith) c.deref_mut.ensures.value c.deref_mut-in-loop.ensures.value c.settle_next.ensures.seats c.settle_next.ensures.loads c.settle_next.ensures.kept c.settle_next.ensures.len c.settle_next.ensures.homes
+    (omega arith) c.deref_mut.ensures.value c.deref_mut-in-loop.ensures.value c.settle_next.ensures.seats c.settle_next.ensures.loads c.settle_next.ensures.kept c.settle_next.ensures.len c.settle_next.ensures.left c.settle_next.ensures.homes
     (whole c.loop.seats.len c.settle_next.new.seats c.loop.seats.items c.loop.seats.ok.0 (c.settle_next.auto.seats ∙ ap length c.deref_mut.ensures.value))
     (whole c.loop.loads.len c.settle_next.new.loads c.loop.loads.items c.loop.loads.ok.0 (c.settle_next.auto.loads ∙ ap length c.deref_mut-in-loop.ensures.value))
 
