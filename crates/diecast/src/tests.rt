@@ -164,3 +164,13 @@ fn an_image_that_is_missing_or_too_long(rt: HostRuntime) -> Result<(), Fail> {
     );
     Ok(())
 }
+
+#[test]
+fn a_run_of_no_host_ticks(rt: HostRuntime) -> Result<(), Fail> {
+    let wanted = b"diecast 1 factor 2 slots 1 guests 1 host 0\nend 0\n";
+    let alloc = rt.alloc();
+    let left = run(alloc, &file(alloc, 2, 1, 2, "")?, &JUMP, "0", room(alloc)?)?;
+    assert_eq!(rt; left.code, 0);
+    assert_eq!(rt; left.out.bytes(), wanted.as_slice());
+    Ok(())
+}
