@@ -69,16 +69,20 @@ end 2\n";
     Ok(())
 }
 
+// A turn has two units. The tick that halts has one busy step, and each later one costs one unit
+// too; a quantum ends with its tick.
 #[test]
 fn a_word_of_zeros_halts(rt: HostRuntime) -> Result<(), Fail> {
     let wanted = b"diecast 1 factor 1 slots 1 guests 1 host 2\n\
 host 1\n\
 slot 0\n\
-run 0 units 2 done 2\n\
+run 0 units 1 done 1\n\
 0 0 halt\n\
+run 0 units 1 done 2\n\
 host 2\n\
 slot 0\n\
-run 0 units 2 done 4\n\
+run 0 units 1 done 3\n\
+run 0 units 1 done 4\n\
 end 2\n";
     let alloc = rt.alloc();
     let left = run(
