@@ -6,6 +6,7 @@ here=$(cd "$(dirname "$0")" && pwd)
 top=$(cd "$here/../.." && pwd)
 work=$(mktemp -d)
 trap 'rm -rf "$work"' EXIT
+. "$here/../compare.sh"
 
 # lui x4,0x80001; addi x1,x0,0; loop: addi x1,x1,1; add x2,x2,x1; xor x3,x1,x2; slli x5,x3,7; srli x6,x3,3;
 # sub x5,x5,x6; andi x7,x1,2044; add x8,x4,x7; sw x5,0(x8); lw x9,0(x8); sb x3,5(x8); lbu x10,4(x8);
@@ -122,21 +123,4 @@ PROGRAM
 gcc -O2 "-DPROGRAM=$words" -o "$work/interp" "$here/interp.c"
 (cd "$work/crates/bench_hart" && rt run > "$work/log" 2>&1) || { grep -E 'error|no proof' "$work/log" | head -5; exit 1; }
 
-# the least time of five runs, in microseconds
-least() {
-    local best="" start end
-    for _ in 1 2 3 4 5; do
-        start=$(date +%s%N)
-        "$1" > "$work/said"
-        end=$(date +%s%N)
-        local took=$(((end - start) / 1000))
-        if [ -z "$best" ] || [ "$took" -lt "$best" ]; then best=$took; fi
-    done
-    echo "$best"
-}
-
-rattle=$(least "$work/crates/bench_hart/out/bench_hart")
-said=$(cat "$work/said")
-c=$(least "$work/interp")
-[ "$said" = "$(cat "$work/said")" ] || { echo "the two programs differ: $said, $(cat "$work/said")"; exit 1; }
-echo "hart $rattle us, C $c us, ratio $(awk "BEGIN { printf \"%.2f\", $rattle / $c }")"
+compare hart "$work/crates/bench_hart/out/bench_hart" "$work/interp"

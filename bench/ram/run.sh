@@ -5,6 +5,7 @@ here=$(cd "$(dirname "$0")" && pwd)
 top=$(cd "$here/../.." && pwd)
 work=$(mktemp -d)
 trap 'rm -rf "$work"' EXIT
+. "$here/../compare.sh"
 
 mkdir -p "$work/crates"
 for crate in tb_base byte_pages guest_ram; do
@@ -54,21 +55,4 @@ PROGRAM
 gcc -O2 -o "$work/ram_c" "$here/ram.c"
 (cd "$work/crates/bench_ram" && rt run > "$work/log" 2>&1) || { tail -5 "$work/log"; exit 1; }
 
-# the least time of five runs, in microseconds
-least() {
-    local best="" start end
-    for _ in 1 2 3 4 5; do
-        start=$(date +%s%N)
-        "$1" > "$work/said"
-        end=$(date +%s%N)
-        local took=$(((end - start) / 1000))
-        if [ -z "$best" ] || [ "$took" -lt "$best" ]; then best=$took; fi
-    done
-    echo "$best"
-}
-
-rattle=$(least "$work/crates/bench_ram/out/bench_ram")
-said=$(cat "$work/said")
-c=$(least "$work/ram_c")
-[ "$said" = "$(cat "$work/said")" ] || { echo "the two programs differ"; exit 1; }
-echo "guest_ram $rattle us, C $c us, ratio $(awk "BEGIN { printf \"%.2f\", $rattle / $c }")"
+compare guest_ram "$work/crates/bench_ram/out/bench_ram" "$work/ram_c"
