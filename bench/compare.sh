@@ -1,5 +1,18 @@
-# Sourced by the benches: compare NAME OURS C prints how long two programs take, the least of five runs
-# each, and the ratio, once they have said the same. It writes into $work.
+# Sourced by the benches, which set $here. It sets $top and $work, a folder that goes when the bench
+# ends. copy_crates NAME.. puts crates there to build a program over. compare NAME OURS C prints how
+# long two programs take, the least of five runs each, and the ratio, once they have said the same.
+set -e
+top=$(cd "$here/../.." && pwd)
+work=$(mktemp -d)
+trap 'rm -rf "$work"' EXIT
+
+copy_crates() {
+    local crate
+    for crate in "$@"; do
+        mkdir -p "$work/crates/$crate"
+        cp -r "$top/crates/$crate/src" "$top/crates/$crate/specs" "$top/crates/$crate/proofs" "$work/crates/$crate/" 2>/dev/null || true
+    done
+}
 
 least() {
     local best="" start end

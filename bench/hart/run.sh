@@ -1,11 +1,7 @@
 #!/usr/bin/env bash
 # Times 10^8 steps of a hart over RAM against an interpreter in C (interp.c, gcc -O2) on the same program, and
 # prints the ratio.
-set -e
 here=$(cd "$(dirname "$0")" && pwd)
-top=$(cd "$here/../.." && pwd)
-work=$(mktemp -d)
-trap 'rm -rf "$work"' EXIT
 . "$here/../compare.sh"
 
 # lui x4,0x80001; addi x1,x0,0; loop: addi x1,x1,1; add x2,x2,x1; xor x3,x1,x2; slli x5,x3,7; srli x6,x3,3;

@@ -1,17 +1,9 @@
 #!/usr/bin/env bash
 # Times 10^8 word loads and stores of guest_ram against the same loop in C, and prints the ratio.
-set -e
 here=$(cd "$(dirname "$0")" && pwd)
-top=$(cd "$here/../.." && pwd)
-work=$(mktemp -d)
-trap 'rm -rf "$work"' EXIT
 . "$here/../compare.sh"
 
-mkdir -p "$work/crates"
-for crate in tb_base byte_pages guest_ram; do
-    mkdir "$work/crates/$crate"
-    cp -r "$top/crates/$crate/src" "$top/crates/$crate/specs" "$top/crates/$crate/proofs" "$work/crates/$crate/" 2>/dev/null || true
-done
+copy_crates tb_base byte_pages guest_ram
 cat > "$work/crates.txt" <<'LIST'
 tb_base:
 byte_pages:
