@@ -12,12 +12,7 @@ words="0x80001237, 0x00000093, 0x00108093, 0x00110133, 0x0020c1b3, 0x00719293, 0
 0x00358593, 0x0063b633, 0xfa009ee3"
 
 mkdir -p "$work/crates/bench_hart/src" "$work/crates/bench_hart/specs"
-for crate in tb_base byte_pages guest_ram rv_word csr_file rv_arith rv_exec; do
-    mkdir "$work/crates/$crate"
-    for part in src specs proofs; do
-        if [ -d "$top/crates/$crate/$part" ]; then cp -r "$top/crates/$crate/$part" "$work/crates/$crate/"; fi
-    done
-done
+copy_crates tb_base byte_pages guest_ram rv_word csr_file rv_arith rv_exec
 { grep -E '^(tb_base|byte_pages|guest_ram|rv_word|csr_file|rv_arith|rv_exec):' "$top/crates.txt"
   echo "bench_hart: tb_base byte_pages guest_ram rv_word csr_file rv_arith rv_exec anyhow"; } > "$work/crates.txt"
 echo "pub mod RamBus" > "$work/crates/bench_hart/specs/Lib.antt"
