@@ -1,6 +1,5 @@
 -- What each instruction does.
-use Rattle.std.specs.Prelude.{ℕ, ◌+◌, ◌*◌, ◌-◌, ◌/◌, ◌%◌, ◌^◌, ◌==◌, not, if◌then◌else◌, Bool, true, false, Option, Some, None, Result, Ok, Err, ℤ, List, slice_index, slice_set, bit_and, bit_or, bit_xor}
-use Rattle.tb_base.specs.declared.width.Width.{Width}
+use Rattle.std.specs.Prelude.{ℕ, ◌+◌, ◌*◌, ◌-◌, ◌/◌, ◌%◌, ◌^◌, ◌==◌, not, if◌then◌else◌, Bool, true, Option, Some, None, Result, Ok, Err, ℤ, List, slice_index, slice_set, bit_and, bit_or, bit_xor}
 use Rattle.tb_base.specs.declared.width.Width.TheVariants.{Byte, Half, Word}
 use Rattle.guest_ram.specs.declared.fault.MemFault.{MemFault}
 use Rattle.guest_ram.specs.declared.fault.MemFault.TheVariants.{Misaligned, Outside}

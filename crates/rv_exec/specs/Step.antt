@@ -1,5 +1,5 @@
 -- One step of a hart: the six cases, in their order.
-use Rattle.std.specs.Prelude.{ℕ, ◌+◌, ◌%◌, ◌^◌, not, ◌&&◌, ◌||◌, if◌then◌else◌, Bool, true, false, Option, Some, None, Result, Ok, Err, replicate}
+use Rattle.std.specs.Prelude.{ℕ, ◌+◌, ◌%◌, ◌^◌, not, ◌&&◌, ◌||◌, if◌then◌else◌, Bool, false, Option, Some, None, Result, Ok, Err, replicate}
 use Rattle.guest_ram.specs.declared.fault.MemFault.{MemFault}
 use Rattle.csr_file.specs.declared.lines.Lines.{Lines}
 use Rattle.csr_file.specs.declared.view.CsrView.{CsrView}

@@ -1,6 +1,7 @@
 //! Steps.
 ghost use Rattle.std.specs.Prelude.{◌≡◌, ◌≢◌, ◌↔◌, Ok, false};
 ghost use Rattle.rv_exec.specs.declared.stepped.Stepped.TheVariants.{Idle, Trapped};
+ghost use Rattle.rv_exec.specs.Moves.{Moves};
 ghost use Rattle.rv_exec.specs.Step.{is_busy, step_of, awake, trap_hart, trapped, finished, decoded, fetched_step, idled};
 
 use crate::bus::Bus;
@@ -72,14 +73,15 @@ impl Hart {
         }
     }
 
-    /// One step: the six cases in their order. Idle exactly where the next step was not busy. It takes no
-    /// memory.
+    /// One step: the six cases in their order. Idle exactly where the next step was not busy. It makes
+    /// one store at most, and takes no memory.
     pub fn step<B: Bus>(&mut self, bus: &mut B) -> Stepped
         requires ready { B.ready bus.old }
         ensures idle { (result ≡ Idle) ↔ (is_busy self.old (B.bus.lines_of (B.bus_state bus.old)) (B.bus.is_stopped (B.bus_state bus.old)) ≡ false) }
         ensures out { result ≡ (step_of B.bus self.old (B.bus_state bus.old)).out }
         ensures hart { self.new ≡ (step_of B.bus self.old (B.bus_state bus.old)).hart }
         ensures bus { B.bus_state bus.new ≡ (step_of B.bus self.old (B.bus_state bus.old)).bus }
+        ensures moves { Moves B.bus (B.bus_state bus.old) (B.bus_state bus.new) }
         ensures ready { B.ready bus.new }
     {
         let lines = bus.lines();

@@ -1,0 +1,99 @@
+-- A step of a hart that is awake makes one store at most.
+use Rattle.std.proofs.Common.{◌≡◌, ℕ, ◌+◌, ◌%◌, ◌^◌, Option, Some, None, Result, Ok, Err, inl, inr, refl}
+use Rattle.tb_base.specs.declared.width.Width.{Width}
+use Rattle.tb_base.specs.declared.width.Width.TheVariants.{Byte, Half, Word}
+use Rattle.guest_ram.specs.declared.fault.MemFault.{MemFault}
+use Rattle.csr_file.specs.declared.view.CsrView.{CsrView}
+use Rattle.csr_file.specs.Interrupts.{pending_of}
+use Rattle.rv_arith.specs.Words.{word_of}
+use Rattle.rv_word.specs.declared.op.Op.{Op}
+use Rattle.rv_word.specs.declared.op.Op.TheVariants as op
+use Rattle.rv_word.specs.Table.{search, table}
+use Rattle.rv_exec.specs.BusOf.{BusOf}
+use Rattle.rv_exec.specs.HartState.{HartState}
+use Rattle.rv_exec.specs.Meaning.{Outcome, Done, Raises, meaning, reg_of, store_done}
+use Rattle.rv_exec.specs.Moves.{Moves}
+use Rattle.rv_exec.specs.Step.{finished, decoded, fetched_step, after_pending, awake}
+
+store_moves : {S : Type 0} (b : BusOf S) (h : HartState) (s : S) (addr : ℕ) (width : Width) (value : ℕ) (r : Result S MemFault) → b.stored s addr width value ≡ r →
+    Moves b s (store_done h s addr r).1
+store_moves b h s addr width value (Ok s') e = inr (addr, (width, (value, e)))
+store_moves b h s addr width value (Err x) e = inl refl
+
+meaning_moves : {S : Type 0} (b : BusOf S) (h : HartState) (s : S) (v : CsrView) (word : ℕ) (o : Op) → Moves b s (meaning b h s v word o).1
+meaning_moves b h s v word (op.Lui rd imm) = inl refl
+meaning_moves b h s v word (op.Auipc rd imm) = inl refl
+meaning_moves b h s v word (op.Jal rd imm) = inl refl
+meaning_moves b h s v word (op.Jalr rd rs1 imm) = inl refl
+meaning_moves b h s v word (op.Beq rs1 rs2 imm) = inl refl
+meaning_moves b h s v word (op.Bne rs1 rs2 imm) = inl refl
+meaning_moves b h s v word (op.Blt rs1 rs2 imm) = inl refl
+meaning_moves b h s v word (op.Bge rs1 rs2 imm) = inl refl
+meaning_moves b h s v word (op.Bltu rs1 rs2 imm) = inl refl
+meaning_moves b h s v word (op.Bgeu rs1 rs2 imm) = inl refl
+meaning_moves b h s v word (op.Lb rd rs1 imm) = inl refl
+meaning_moves b h s v word (op.Lh rd rs1 imm) = inl refl
+meaning_moves b h s v word (op.Lw rd rs1 imm) = inl refl
+meaning_moves b h s v word (op.Lbu rd rs1 imm) = inl refl
+meaning_moves b h s v word (op.Lhu rd rs1 imm) = inl refl
+meaning_moves b h s v word (op.Sb rs1 rs2 imm) = store_moves b h s ((reg_of h rs1 + word_of imm) % 2 ^ 32) Byte (reg_of h rs2) (b.stored s ((reg_of h rs1 + word_of imm) % 2 ^ 32) Byte (reg_of h rs2)) refl
+meaning_moves b h s v word (op.Sh rs1 rs2 imm) = store_moves b h s ((reg_of h rs1 + word_of imm) % 2 ^ 32) Half (reg_of h rs2) (b.stored s ((reg_of h rs1 + word_of imm) % 2 ^ 32) Half (reg_of h rs2)) refl
+meaning_moves b h s v word (op.Sw rs1 rs2 imm) = store_moves b h s ((reg_of h rs1 + word_of imm) % 2 ^ 32) Word (reg_of h rs2) (b.stored s ((reg_of h rs1 + word_of imm) % 2 ^ 32) Word (reg_of h rs2)) refl
+meaning_moves b h s v word (op.Addi rd rs1 imm) = inl refl
+meaning_moves b h s v word (op.Slti rd rs1 imm) = inl refl
+meaning_moves b h s v word (op.Sltiu rd rs1 imm) = inl refl
+meaning_moves b h s v word (op.Xori rd rs1 imm) = inl refl
+meaning_moves b h s v word (op.Ori rd rs1 imm) = inl refl
+meaning_moves b h s v word (op.Andi rd rs1 imm) = inl refl
+meaning_moves b h s v word (op.Slli rd rs1 shamt) = inl refl
+meaning_moves b h s v word (op.Srli rd rs1 shamt) = inl refl
+meaning_moves b h s v word (op.Srai rd rs1 shamt) = inl refl
+meaning_moves b h s v word (op.Add rd rs1 rs2) = inl refl
+meaning_moves b h s v word (op.Sub rd rs1 rs2) = inl refl
+meaning_moves b h s v word (op.Sll rd rs1 rs2) = inl refl
+meaning_moves b h s v word (op.Slt rd rs1 rs2) = inl refl
+meaning_moves b h s v word (op.Sltu rd rs1 rs2) = inl refl
+meaning_moves b h s v word (op.Xor rd rs1 rs2) = inl refl
+meaning_moves b h s v word (op.Srl rd rs1 rs2) = inl refl
+meaning_moves b h s v word (op.Sra rd rs1 rs2) = inl refl
+meaning_moves b h s v word (op.Or rd rs1 rs2) = inl refl
+meaning_moves b h s v word (op.And rd rs1 rs2) = inl refl
+meaning_moves b h s v word (op.Mul rd rs1 rs2) = inl refl
+meaning_moves b h s v word (op.Mulh rd rs1 rs2) = inl refl
+meaning_moves b h s v word (op.Mulhsu rd rs1 rs2) = inl refl
+meaning_moves b h s v word (op.Mulhu rd rs1 rs2) = inl refl
+meaning_moves b h s v word (op.Div rd rs1 rs2) = inl refl
+meaning_moves b h s v word (op.Divu rd rs1 rs2) = inl refl
+meaning_moves b h s v word (op.Rem rd rs1 rs2) = inl refl
+meaning_moves b h s v word (op.Remu rd rs1 rs2) = inl refl
+meaning_moves b h s v word op.Fence = inl refl
+meaning_moves b h s v word op.FenceI = inl refl
+meaning_moves b h s v word (op.Csrrw rd csr rs1) = inl refl
+meaning_moves b h s v word (op.Csrrs rd csr rs1) = inl refl
+meaning_moves b h s v word (op.Csrrc rd csr rs1) = inl refl
+meaning_moves b h s v word (op.Csrrwi rd csr zimm) = inl refl
+meaning_moves b h s v word (op.Csrrsi rd csr zimm) = inl refl
+meaning_moves b h s v word (op.Csrrci rd csr zimm) = inl refl
+meaning_moves b h s v word op.Ecall = inl refl
+meaning_moves b h s v word op.Ebreak = inl refl
+meaning_moves b h s v word op.Mret = inl refl
+meaning_moves b h s v word op.Wfi = inl refl
+
+finished_moves : {S : Type 0} (b : BusOf S) (h : HartState) (s : S) (word : ℕ) (o : Outcome × S) → Moves b s o.1 → Moves b s (finished h word o).bus
+finished_moves b h s word (Done h', s') m = m
+finished_moves b h s word (Raises cause value, s') m = m
+
+decoded_moves : {S : Type 0} (b : BusOf S) (h : HartState) (s : S) (word : ℕ) (o : Option Op) → Moves b s (decoded b h s word o).bus
+decoded_moves b h s word None = inl refl
+decoded_moves b h s word (Some o) = finished_moves b h s word (meaning b h s (record { lines = b.lines_of s; time = b.now_of s; cycle = h.steps; instret = h.retired }) word o) (meaning_moves b h s (record { lines = b.lines_of s; time = b.now_of s; cycle = h.steps; instret = h.retired }) word o)
+
+fetched_moves : {S : Type 0} (b : BusOf S) (h : HartState) (s : S) (r : Result ℕ MemFault) → Moves b s (fetched_step b h s r).bus
+fetched_moves b h s (Err e) = inl refl
+fetched_moves b h s (Ok word) = decoded_moves b h s word (search table word)
+
+pending_moves : {S : Type 0} (b : BusOf S) (h : HartState) (s : S) (p : Option ℕ) → Moves b s (after_pending b h s p).bus
+pending_moves b h s (Some cause) = inl refl
+pending_moves b h s None = fetched_moves b h s (b.fetched s h.pc)
+
+pub awake_moves : {S : Type 0} (b : BusOf S) (h : HartState) (s : S) → Moves b s (awake b h s).bus
+awake_moves b h s = pending_moves b h s (pending_of h.csrs (b.lines_of s))
