@@ -1,72 +1,57 @@
--- A tick of a machine: begin, then `rate` steps, then end. The only instruction is JAL; whatever else is met halts
--- the machine.
-use Rattle.std.specs.Prelude.{ℕ, ◌+◌, ◌%◌, ◌^◌, ◌==◌, not, if◌then◌else◌, Bool, true, Option, Some, Result, Ok, Err, List, [], ◌∷◌, ◌++◌}
-use Rattle.std.specs.Int.{w32, cast_unsigned}
-use Rattle.tb_base.specs.declared.width.Width.TheVariants.{Word}
-use Rattle.guest_ram.specs.declared.fault.MemFault.{MemFault}
-use Rattle.guest_ram.specs.Bytes.{ram_load}
-use Rattle.rv_word.specs.declared.op.Op.{Op}
-use Rattle.rv_word.specs.declared.op.Op.TheVariants.{Jal}
-use Rattle.rv_word.specs.Table.{search, table}
+-- A tick of a machine: begin, then `rate` steps of its hart, then end.
+use Rattle.std.specs.Prelude.{ℕ, ◌+◌, if◌then◌else◌, Bool, true, false, List, [], ◌∷◌, ◌++◌}
 use Rattle.trace_rec.specs.declared.rec.Rec.{Rec}
 use Rattle.trace_rec.specs.declared.what.What.{What}
-use Rattle.trace_rec.specs.declared.what.What.TheVariants.{Instr, Halted}
-use Rattle.lookahead_core.specs.Motion.{Motion, Clock, Idle, Running}
+use Rattle.trace_rec.specs.declared.what.What.TheVariants.{Instr, Trap, Halted}
+use Rattle.lookahead_core.specs.Motion.{Motion, Clock}
+use Rattle.rv_exec.specs.HartState.{HartState}
+use Rattle.rv_exec.specs.declared.stepped.Stepped.{Stepped}
+use Rattle.rv_exec.specs.declared.stepped.Stepped.TheVariants.{Idle, Retired, Trapped}
+use Rattle.rv_exec.specs.Step.{After, step_of, is_busy}
+use Rattle.guest_machine.specs.MemoryMap.{MapState, map_bus}
 
 -- the plain state of a machine
 pub record MachineState : Type 0 where
   -- how many steps a tick has
   pub rate : ℕ
-  pub pc : ℕ
-  pub halted : Bool
-  -- RAM, from 0x8000_0000 on
-  pub ram : List ℕ
-  -- the next tick, or the one that is begun and how many of its steps were made
-  pub clock : Clock
+  pub hart : HartState
+  -- what the hart sees, with the next tick, or the one that is begun
+  pub map : MapState
+  -- whether a tick is begun, and how many of its steps were made
+  pub begun : Bool
+  pub made : ℕ
   -- the records so far of the tick that is begun
   pub recs : List Rec
 
--- one step more of the tick was made
-abbrev pub one_made : Clock → Clock
-one_made c = Running c.tick (c.made + 1)
+-- the machine's place in its ticks
+abbrev pub clock_of : MachineState → Clock
+clock_of s = record { tick = s.map.tick; begun = s.begun; made = s.made }
 
--- a step of the begun tick was made, and this happened in it
-abbrev pub made_known : MachineState → What → MachineState
-made_known s what = record s { recs = s.recs ++ record { tick = s.clock.tick; what = what } ∷ []; clock = one_made s.clock }
+abbrev pub rec_of : ℕ → What → Rec
+rec_of tick what = record { tick = tick; what = what }
 
--- the machine halts
-abbrev pub halt : MachineState → MachineState
-halt s = made_known (record s { halted = true }) Halted
+-- The records of a step of a tick, after which the machine is halted or not. A machine that is halted makes idle
+-- steps alone, so the step after which it is halted and that retired an instruction is the one that halted it.
+abbrev pub told : ℕ → Stepped → Bool → List Rec
+told tick Idle halted = []
+told tick (Retired pc word) halted = rec_of tick (Instr pc word) ∷ (if halted then rec_of tick Halted ∷ [] else [])
+told tick (Trapped cause pc) halted = rec_of tick (Trap cause pc) ∷ []
 
--- an instruction retires, and the next one is at this address
-abbrev pub retire : MachineState → ℕ → ℕ → MachineState
-retire s word next = made_known (record s { pc = next }) (Instr s.pc word)
-
--- a jump to an address that is no multiple of 4 is not done
-abbrev pub jump : MachineState → ℕ → ℕ → MachineState
-jump s word target = if target % 4 == 0 then retire s word target else halt s
-
--- what a word does, by its row of the table of instructions
-abbrev pub carry_out : MachineState → ℕ → Option Op → MachineState
-carry_out s word (Some (Jal rd imm)) = jump s word ((s.pc + cast_unsigned w32 imm) % 2 ^ 32)
-carry_out s word _ = halt s
-
-abbrev pub execute : MachineState → Result ℕ MemFault → MachineState
-execute s (Ok word) = carry_out s word (search table word)
-execute s (Err _) = halt s
-
--- a step of a halted machine is idle, and every other one busy
-abbrev pub is_busy : MachineState → Bool
-is_busy s = not s.halted
+-- what a step of the hart leaves
+abbrev pub stepped : MachineState → After MapState → MachineState
+stepped s a = record s { hart = a.hart; map = a.bus; made = s.made + 1; recs = s.recs ++ told a.bus.tick a.out a.bus.halted }
 
 abbrev pub machine_step : MachineState → MachineState
-machine_step s = if s.halted then record s { clock = one_made s.clock } else execute s (ram_load s.ram s.pc Word)
+machine_step s = stepped s (step_of map_bus s.hart s.map)
+
+abbrev pub machine_busy : MachineState → Bool
+machine_busy s = is_busy s.hart (map_bus.lines_of s.map) s.map.halted
 
 abbrev pub machine_begin : MachineState → ℕ → List (List (List ℕ)) → MachineState
-machine_begin s n arrivals = record s { clock = Running n 0; recs = [] }
+machine_begin s n arrivals = record s { map = record (s.map) { tick = n }; begun = true; made = 0; recs = [] }
 
 abbrev pub machine_end : MachineState → ℕ → MachineState
-machine_end s n = record s { clock = Idle (n + 1); recs = [] }
+machine_end s n = record s { map = record (s.map) { tick = n + 1 }; begun = false; made = 0; recs = [] }
 
 -- the tick of a machine, as the motion of a node without nics
 abbrev pub machine_motion : Motion MachineState
@@ -74,7 +59,7 @@ machine_motion = record {
   rate = λ s. s.rate;
   nics = λ s. 0;
   begin = machine_begin;
-  busy = is_busy;
+  busy = machine_busy;
   step = machine_step;
   end = machine_end;
   left = λ s n. [];
