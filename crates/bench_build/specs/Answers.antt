@@ -8,8 +8,9 @@ use Rattle.bench_build.specs.declared.build_fault.BuildFault.{BuildFault}
 use Rattle.bench_build.specs.declared.build_fault.BuildFault.TheVariants.{Image, NoMemory}
 
 -- the image of a guest is taken: it gives RAM and an entry
-abbrev pub IsTaken : GuestSpec → List ℕ → Type 0
-IsTaken g b = (l : Loaded) × (image g.format g.ram b ≡ Ok l)
+pub record IsTaken (g : GuestSpec) (b : List ℕ) : Type 0 where
+  pub loaded : Loaded
+  pub is : image g.format g.ram b ≡ Ok loaded
 
 -- the first fault of the image of a guest
 abbrev pub IsFault : GuestSpec → List ℕ → ImageFault → Type 0

@@ -5,6 +5,8 @@ use std::test::Fail;
 use tb_io::{MemFiles, MemSink};
 use tb_top::diecast;
 
+mod files;
+
 const JUMP: [u8; 4] = [0x6f, 0, 0, 0];
 
 /// What a command left: its exit status, what it put, and its message.

@@ -7,7 +7,7 @@ use Rattle.exp_file.specs.declared.experiment.Experiment.{Experiment}
 use Rattle.exp_file.specs.declared.guest_spec.GuestSpec.{GuestSpec}
 use Rattle.host_plan.specs.Fits.{Fits, IsFirstOverload}
 use Rattle.host_plan.specs.Placing.{placed}
-use Rattle.bench_build.specs.Answers.{IsFault}
+use Rattle.bench_build.specs.Answers.{IsTaken, IsFault}
 use Rattle.bench_build.specs.declared.build_fault.BuildFault.TheVariants as build
 use Rattle.tb_top.specs.declared.fetch.Missed.{Missed}
 use Rattle.tb_top.specs.declared.fetch.Missed.TheVariants as missed
@@ -110,7 +110,7 @@ load_status (load.Build (build.Image i fault)) = Build (build.Image i fault)
 -- the images of the guests are told and within their limit, and each is taken
 abbrev pub AreTold : (List ℕ → Option (List ℕ)) → List GuestSpec → Type 0
 AreTold held guests =
-    (i : ℕ) (g : GuestSpec) → slice_get guests i ≡ Some g → (b : List ℕ) × (held g.image ≡ Some b) × (length b ≤ IMAGE_FILE) × (length b ≤ g.ram)
+    (i : ℕ) (g : GuestSpec) → slice_get guests i ≡ Some g → (b : List ℕ) × (held g.image ≡ Some b) × (length b ≤ IMAGE_FILE) × IsTaken g b
 
 -- the words are a run, its file says an experiment that fits, and its images are taken
 pub record MayRun (words : List (List ℕ)) (held : List ℕ → Option (List ℕ)) (e : Experiment) : Type 0 where

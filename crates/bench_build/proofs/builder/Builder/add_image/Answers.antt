@@ -26,7 +26,7 @@ pub returns-clause-answer : goal.returns-clause-answer
 returns-clause-answer c = λ e slots images g b at.
     let here : c.len-index.result ≡ length images = omega (arith, c.len-index.ensures, b.count) in
     let is : c.index-shape.result.now ≡ shape_of g = next_shape e.guests.items c.args.self.now.shapes.items c.len-index.result (length images) g c.index-shape.result.now b.shapes here c.index-shape.ensures at in
-    (c.in-Ok.loaded, taken_is c.index-shape.result.now g c.args.bytes.now c.in-Ok.loaded is c.in-Ok.ensures)
+    record { loaded = c.in-Ok.loaded; is = taken_is c.index-shape.result.now g c.args.bytes.now c.in-Ok.loaded is c.in-Ok.ensures }
 
 pub returns-clause-building : goal.returns-clause-building
 returns-clause-building c = λ e slots images b.
