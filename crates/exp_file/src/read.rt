@@ -59,13 +59,13 @@ fn read_top(alloc: Global, row: &Row<'_>) -> Result<Experiment, ExpErr>
     let link_values = row.array("link", LINKS)?;
     let slots = read_slots(alloc, slot_values)?;
     let guests = read_guests(alloc, slots.len() as u32, guest_values)?;
-    let disks = read_disks(alloc, guests.as_slice(), disk_values)?;
-    let links = read_links(alloc, guests.as_slice(), link_values)?;
+    let disks = read_disks(alloc, &guests, disk_values)?;
+    let links = read_links(alloc, &guests, link_values)?;
     Ok(Experiment {
         version: version as u32,
         factor,
         slots,
-        guests,
+        guests: guests.into_list(),
         disks,
         links,
     })
