@@ -11,25 +11,5 @@ trap 'rm -rf "$work"' EXIT
 diecast=$top/crates/diecast/out/diecast
 [ -x "$diecast" ] || { cat "$work/build.log"; exit 1; }
 
-python3 "$here/files.py" "$work"
 cd "$work"
-least() { # the least of five times, in microseconds
-    local best="" start took
-    for _ in 1 2 3 4 5; do
-        start=$(date +%s%N)
-        "$diecast" run "$1" --host-ticks 0 --view journal > out 2> msg || true
-        took=$((($(date +%s%N) - start) / 1000))
-        if [ -z "$best" ] || [ "$took" -lt "$best" ]; then best=$took; fi
-    done
-    echo "$best"
-}
-
-for shape in comment comments key keys text array tables nested; do
-    quarter=$(least "$shape.262144")
-    half=$(least "$shape.524288")
-    whole=$(least "$shape.1048576")
-    said=$(head -c 60 msg)
-    echo "$shape: $quarter, $half, $whole us, a fourfold file takes $(awk "BEGIN { printf \"%.1f\", $whole / $quarter }") times as long; $said"
-done
-took=$(least most)
-echo "32 guests, 64 disks, 64 links, $(wc -c < most) bytes: $took us; $(cat msg)"
+python3 "$here/reading.py" "$diecast"

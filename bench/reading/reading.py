@@ -1,5 +1,6 @@
-"""Writes experiment files of several shapes and sizes into a folder."""
+"""Makes experiment files of several shapes and sizes, and prints how long diecast takes to read each."""
 import os
+import subprocess
 import sys
 
 HEAD = "version = 1\nfactor = 1\n[[slot]]\ncapacity = 1\n[[guest]]\nname = \"a\"\nimage = \"a\"\nrate = 1\nnics = 1\n"
@@ -7,7 +8,6 @@ HEAD = "version = 1\nfactor = 1\n[[slot]]\ncapacity = 1\n[[guest]]\nname = \"a\"
 
 def filled(head, item, tail, size):
     """A head, an item as often as it fits, a tail, and a comment up to the size."""
-    text = head
     parts = []
     left = size - len(head) - len(tail) - 2
     count = 0
@@ -50,15 +50,36 @@ def most():
     return text
 
 
-def main(folder):
+def write(path, text):
+    with open(path, "w") as out:
+        out.write(text)
+
+
+def least(diecast, path):
+    """The least processor time of five readings in milliseconds, and the message."""
+    times = []
+    for _ in range(5):
+        with open("msg", "w") as msg:
+            child = subprocess.Popen([diecast, "run", path, "--host-ticks", "0", "--view", "journal"], stdout=msg, stderr=msg)
+            _, _, used = os.wait4(child.pid, 0)
+        times.append((used.ru_utime + used.ru_stime) * 1000)
+    with open("msg") as msg:
+        return min(times), msg.read()[:60].strip()
+
+
+def main(diecast):
     for name, make in SHAPES.items():
+        times = []
         for size in (262144, 524288, 1048576):
             text = make(size)
             assert len(text) == size, (name, size, len(text))
-            with open(os.path.join(folder, f"{name}.{size}"), "w") as out:
-                out.write(text)
-    with open(os.path.join(folder, "most"), "w") as out:
-        out.write(most())
+            write("file", text)
+            took, said = least(diecast, "file")
+            times.append(took)
+        print(f"{name}: {times[0]:.1f}, {times[1]:.1f}, {times[2]:.1f} ms, a fourfold file takes {times[2] / times[0]:.1f} times as long; {said}")
+    write("file", most())
+    took, said = least(diecast, "file")
+    print(f"32 guests, 64 disks, 64 links, {os.path.getsize('file')} bytes: {took:.1f} ms; {said}")
 
 
 main(sys.argv[1])
