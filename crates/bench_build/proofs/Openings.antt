@@ -21,7 +21,7 @@ use Rattle.bench_build.specs.declared.build_fault.BuildFault.TheVariants as buil
 use Rattle.bench_build.specs.Images.{image}
 use Rattle.bench_build.specs.Openings.{openings}
 use Rattle.bench_build.specs.Setups.{machines_of, opens, wires_of, shape_of, capacity_of}
-use Rattle.bench_build.specs.Shapes.{IsShape, IsUnbegun, rate_at}
+use Rattle.bench_build.specs.Shapes.{IsShape, rate_at}
 
 some_is : {A : Type 0} {x y : A} → Some x ≡ Some y → x ≡ y
 some_is e = cc
@@ -58,17 +58,30 @@ openings_are (g ∷ gs) (b ∷ images) (l ∷ ls) are =
     ap (λ r. opens g.rate r ∷ openings (map shape_of gs) ls) (sym are.0)
     ∙ ap (λ ms. opens g.rate (image g.format g.ram b) ∷ ms) (openings_are gs images ls are.1)
 
--- and none of them has begun a tick
-unbegun_at : (ss : List Shape) (ls : List Loaded) (g : ℕ) (x : MachineState) → slice_get (openings ss ls) g ≡ Some x → IsUnbegun (rate_at ss g) x
-unbegun_at [] [] g x at = none_is_some at
-unbegun_at (s ∷ ss) [] g x at = none_is_some at
-unbegun_at [] (l ∷ ls) g x at = none_is_some at
-unbegun_at (s ∷ ss) (l ∷ ls) zero x at = subst (λ (k : MachineState). IsUnbegun s.rate k) (some_is at) (record { idle = refl; rate_is = refl })
-unbegun_at (s ∷ ss) (l ∷ ls) (suc g) x at = unbegun_at ss ls g x at
+-- each of them has the rate of its shape
+rate_at_place : (ss : List Shape) (ls : List Loaded) (g : ℕ) (x : MachineState) → slice_get (openings ss ls) g ≡ Some x → x.rate ≡ rate_at ss g
+rate_at_place [] [] g x at = none_is_some at
+rate_at_place (s ∷ ss) [] g x at = none_is_some at
+rate_at_place [] (l ∷ ls) g x at = none_is_some at
+rate_at_place (s ∷ ss) (l ∷ ls) zero x at = ap (λ (k : MachineState). k.rate) (sym (some_is at))
+rate_at_place (s ∷ ss) (l ∷ ls) (suc g) x at = rate_at_place ss ls g x at
 
 -- the states of one machine more
-pub states_push : (ms : List Machine) (m : Machine) → map machine_state (ms ++ m ∷ []) ≡ map machine_state ms ++ machine_state m ∷ []
-states_push ms m = map-append machine_state ms (m ∷ [])
+pub states_push : {M : Type 0} (state : M → MachineState) (ms : List M) (m : M) → map state (ms ++ m ∷ []) ≡ map state ms ++ state m ∷ []
+states_push state ms m = map-append state ms (m ∷ [])
+
+-- what holds of all holds of the one at a place
+pub all_get : {A : Type 0} (P : A → Type 0) (xs : List A) (i : ℕ) (x : A) → All P xs → slice_get xs i ≡ Some x → P x
+all_get P [] i x all at = none_is_some at
+all_get P (y ∷ xs) zero x all at = subst P (some_is at) (all 0 y (omega arith))
+all_get P (y ∷ xs) (suc i) x all at = all_get P xs i x (λ k d lt. all (suc k) d (omega (arith, lt))) at
+
+-- and of one more
+pub all_push : {A : Type 0} (P : A → Type 0) (xs : List A) (x : A) → All P xs → P x → All P (xs ++ x ∷ [])
+all_push P [] x all p zero d lt = p
+all_push P [] x all p (suc k) d lt = absurd (omega (arith, lt))
+all_push P (y ∷ xs) x all p zero d lt = all 0 d (omega arith)
+all_push P (y ∷ xs) x all p (suc k) d lt = all_push P xs x (λ i e less. all (suc i) e (omega (arith, less))) p k d (omega (arith, lt))
 
 -- the shape of a guest is in range
 pub shapes_in_range : (gs : List GuestSpec) (slots : ℕ) → All (IsGuest slots) gs → (g : ℕ) (s : Shape) → slice_get (map shape_of gs) g ≡ Some s → IsShape s
@@ -91,22 +104,23 @@ shape_at (h ∷ gs) zero g s at is = is ∙ ap shape_of (some_is at)
 shape_at (h ∷ gs) (suc i) g s at is = shape_at gs i g s at is
 
 -- the state at a machine's place in the list of all states
-at_place : (ms : List Machine) (states : List MachineState) (g : ℕ) (m : Machine) → map machine_state ms ≡ states → slice_get ms g ≡ Some m → slice_get states g ≡ Some (machine_state m)
-at_place ms states g m e at =
-    subst (λ (zs : List MachineState). slice_get zs g ≡ Some (machine_state m)) e (slice_get-map machine_state ms g ∙ ap (λ o. mapped o) at)
+at_place : {M : Type 0} (state : M → MachineState) (ms : List M) (states : List MachineState) (g : ℕ) (m : M) → map state ms ≡ states → slice_get ms g ≡ Some m →
+    slice_get states g ≡ Some (state m)
+at_place {M = M} state ms states g m e at =
+    subst (λ (zs : List MachineState). slice_get zs g ≡ Some (state m)) e (slice_get-map state ms g ∙ ap (λ o. mapped o) at)
   where
-    mapped : Option Machine → Option MachineState
-    mapped o = elim o [ Some k ↦ Some (machine_state k) | None ↦ None ]
+    mapped : Option M → Option MachineState
+    mapped o = elim o [ Some k ↦ Some (state k) | None ↦ None ]
 
 -- a machine stands at its state of the list of all
-pub state_at_place : (ms : List Machine) (states : List MachineState) (g : ℕ) (m : Machine) (d : MachineState) → map machine_state ms ≡ states → slice_get ms g ≡ Some m →
-    machine_state m ≡ slice_index_or states g d
-state_at_place ms states g m d e at = sym (get_or_from_slice_get states g (machine_state m) d (at_place ms states g m e at))
+pub state_at_place : {M : Type 0} (state : M → MachineState) (ms : List M) (states : List MachineState) (g : ℕ) (m : M) (d : MachineState) → map state ms ≡ states → slice_get ms g ≡ Some m →
+    state m ≡ slice_index_or states g d
+state_at_place state ms states g m d e at = sym (get_or_from_slice_get states g (state m) d (at_place state ms states g m e at))
 
--- a machine of these has begun no tick
-pub unbegun_in : (ss : List Shape) (ls : List Loaded) (ms : List Machine) (g : ℕ) (m : Machine) → map machine_state ms ≡ openings ss ls → slice_get ms g ≡ Some m →
-    IsUnbegun (rate_at ss g) (machine_state m)
-unbegun_in ss ls ms g m e at = unbegun_at ss ls g (machine_state m) (at_place ms (openings ss ls) g m e at)
+-- a machine of these has the rate of its shape
+pub rate_in : {M : Type 0} (state : M → MachineState) (ss : List Shape) (ls : List Loaded) (ms : List M) (g : ℕ) (m : M) → map state ms ≡ openings ss ls → slice_get ms g ≡ Some m →
+    (state m).rate ≡ rate_at ss g
+rate_in state ss ls ms g m e at = rate_at_place ss ls g (state m) (at_place state ms (openings ss ls) g m e at)
 
 -- the homes of a placement are slots
 pub homes_in_range : (slots homes capacities : List ℕ) (n : ℕ) → homes ≡ slots → length capacities ≡ n → All (λ s. s < n) slots →
@@ -138,6 +152,7 @@ next_shape gs shapes i n g s sh e is at =
 -- what is answered by the shape of a guest is answered of the guest
 pub refused_is : (i n : ℕ) (s : Shape) (g : GuestSpec) (b : List ℕ) (f : BuildFault) → i ≡ n → s ≡ shape_of g → LoadedAnswers i (image s.format s.ram b) (Err f) → ImageAnswers n g b (Err f)
 refused_is i n s g b (build.Image j fault) e is h = (h.0 ∙ e, ap (λ (k : Shape). image k.format k.ram b) (sym is) ∙ h.1)
+refused_is i n s g b (build.NoDevice kind wanted had) e is h = absurd h
 refused_is i n s g b build.NoMemory e is h = tt
 
 pub taken_is : (s : Shape) (g : GuestSpec) (b : List ℕ) (l : Loaded) → s ≡ shape_of g → image s.format s.ram b ≡ Ok l → image g.format g.ram b ≡ Ok l

@@ -5,7 +5,7 @@ use Rattle.bench_build.specs.Images.{image}
 use Rattle.bench_build.specs.declared.loaded.Loaded.{Loaded}
 use Rattle.bench_build.specs.declared.image_fault.ImageFault.{ImageFault}
 use Rattle.bench_build.specs.declared.build_fault.BuildFault.{BuildFault}
-use Rattle.bench_build.specs.declared.build_fault.BuildFault.TheVariants.{Image, NoMemory}
+use Rattle.bench_build.specs.declared.build_fault.BuildFault.TheVariants.{Image, NoDevice, NoMemory}
 
 -- the image of a guest is taken: it gives RAM and an entry
 pub record IsTaken (g : GuestSpec) (b : List ℕ) : Type 0 where
@@ -20,12 +20,14 @@ IsFault g b fault = image g.format g.ram b ≡ Err fault
 abbrev pub ImageAnswers : ℕ → GuestSpec → List ℕ → Result (Unit {0}) BuildFault → Type 0
 ImageAnswers i g b (Ok _) = IsTaken g b
 ImageAnswers i g b (Err (Image j fault)) = (j ≡ i) × IsFault g b fault
+ImageAnswers i g b (Err (NoDevice kind wanted had)) = ⊥
 ImageAnswers i g b (Err NoMemory) = Unit {0}
 
 -- the same of the RAM that is made for it
 abbrev pub LoadedAnswers : ℕ → Result Loaded ImageFault → Result Loaded BuildFault → Type 0
 LoadedAnswers i is (Ok l) = is ≡ Ok l
 LoadedAnswers i is (Err (Image j fault)) = (j ≡ i) × (is ≡ Err fault)
+LoadedAnswers i is (Err (NoDevice kind wanted had)) = ⊥
 LoadedAnswers i is (Err NoMemory) = Unit {0}
 
 -- and of the RAM that it is put into

@@ -4,3 +4,4 @@ pub mod Images
 pub mod Openings
 pub mod Setups
 pub mod Shapes
+pub mod Stocks

@@ -1,5 +1,7 @@
 //! The builder of a bench.
-ghost use Rattle.std.specs.Prelude.{◌≡◌, ℕ, ◌+◌, ◌*◌, ◌<◌, ◌≤◌, ◌%◌, List, [], ◌∷◌, ◌++◌, length, slice_get, slice_index, Some, true, false, OnOk, OnErr, IfOk, IfErr};
+ghost use Rattle.std.specs.Prelude.{◌≡◌, ℕ, ◌+◌, ◌*◌, ◌<◌, ◌≤◌, ◌^◌, ◌%◌, List, [], ◌∷◌, ◌++◌, length, slice_get, slice_index, Some, true, false, OnOk, OnErr, IfOk, IfErr, All, map};
+ghost use Rattle.dev_face.specs.States.{IsBlankFor};
+ghost use Rattle.dev_face.specs.declared.config.DevConfig.TheVariants as config;
 ghost use Rattle.exp_file.specs.Reading.{is_built};
 ghost use Rattle.exp_file.specs.WellFormed.{IsWellFormed};
 ghost use Rattle.exp_file.specs.declared.experiment.Experiment.{Experiment};
@@ -12,13 +14,16 @@ ghost use Rattle.bench_build.specs.declared.shape.Shape.{Shape};
 ghost use Rattle.bench_build.specs.Answers.{ImageAnswers};
 ghost use Rattle.bench_build.specs.Setups.{setup, plan};
 ghost use Rattle.bench_build.specs.Shapes.{IsShape, rate_at};
+ghost use Rattle.bench_build.specs.Stocks.{Suffices, IsUnbuilt};
 
 use crate::build_fault::BuildFault;
+use crate::devices::check_stock;
 use crate::images::loaded_for;
 use crate::loaded::Loaded;
 use crate::machines::machines_for;
 use crate::plan::{capacities_of, shapes_of};
 use crate::shape::Shape;
+use dev_face::Device;
 use exp_file::Experiment;
 use guest_machine::Machine;
 use host_plan::Placement;
@@ -104,10 +109,18 @@ impl Builder {
         Ok(())
     }
 
-    /// The bench, once all images were taken. It stands at the opening of the experiment with these
-    /// images, before its first host tick.
-    pub fn finish(self) -> Result<Bench<Machine>, BuildFault>
-        requires { added self ≡ wanted self }
+    /// The bench, once all images were taken. Each guest gets a blank Clint and a blank Uart. It stands
+    /// at the opening of the experiment with these images, before its first host tick. It is refused
+    /// where there are fewer devices of a kind than guests, Clints first.
+    pub fn finish<D: Device>(
+        self,
+        clints: Vec<D>,
+        uarts: Vec<D>,
+    ) -> Result<Bench<Machine<D>>, BuildFault>
+        requires all { added self ≡ wanted self }
+        requires few { (length clints.items < 2 ^ 32) × (length uarts.items < 2 ^ 32) }
+        requires clints { All (IsBlankFor config.Clint) (map D.state clints.items) }
+        requires uarts { All (IsBlankFor config.Uart) (map D.state uarts.items) }
         ensures stands { IfOk result (λ bench. (e : Experiment) (slots : List ℕ) (images : List (List ℕ)) (n : ℕ) → IsBuilding e slots images self →
             BenchStands (setup e images) bench n × IsAtTick (setup e images) bench n start) }
         ensures plan { IfOk result (λ bench. (e : Experiment) (slots : List ℕ) (images : List (List ℕ)) (n : ℕ) → IsBuilding e slots images self →
@@ -115,7 +128,8 @@ impl Builder {
         ensures going { IfOk result (λ bench. bench_failed bench ≡ false) }
         ensures made { IfOk result (λ bench. ticks_made bench ≡ 0) }
         ensures count { IfOk result (λ bench. members_of bench ≡ wanted self) }
-        ensures memory { IfErr result (λ f. f ≡ BuildFault.NoMemory) }
+        ensures stock { OnOk result (Suffices (wanted self) (length clints.items) (length uarts.items)) }
+        ensures fault { IfErr result (IsUnbuilt (wanted self) (length clints.items) (length uarts.items)) }
     {
         let Builder {
             alloc,
@@ -125,7 +139,11 @@ impl Builder {
             factor,
             loaded,
         } = self;
-        let machines = match machines_for(alloc, &shapes, loaded) {
+        match check_stock(shapes.len(), clints.len(), uarts.len()) {
+            Ok(()) => (),
+            Err(fault) => return Err(fault),
+        }
+        let machines = match machines_for(alloc, &shapes, loaded, clints, uarts) {
             Ok(machines) => machines,
             Err(_) => return Err(BuildFault::NoMemory),
         };

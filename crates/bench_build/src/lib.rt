@@ -3,13 +3,16 @@
 
 mod build_fault;
 mod builder;
+mod devices;
 mod image_fault;
 mod images;
 mod loaded;
 mod machines;
 mod plan;
 mod shape;
+mod stock;
 
 pub use build_fault::BuildFault;
 pub use builder::Builder;
 pub use image_fault::ImageFault;
+pub use stock::Stock;
