@@ -1,6 +1,6 @@
 #!/usr/bin/env bash
-# Prints how long diecast takes for a step of 32 guests on eight slots, as a multiple of the time for
-# a step of one guest on one slot. Needs rt. Arguments: steps (1920000), a multiple of 32 times the
+# Prints how much processor time diecast takes for a step of 32 guests on eight slots, as a multiple of
+# that for a step of one guest on one slot. Needs rt. Arguments: steps (1920000), a multiple of 32 times the
 # rate, and rate (1000).
 set -eu
 steps=${1:-1920000}
@@ -31,12 +31,11 @@ diecast=$top/crates/diecast/out/diecast
 [ -x "$diecast" ] || { cat "$work/build.log"; exit 1; }
 
 cd "$work"
-best() { # the least of five times, in microseconds
+TIMEFORMAT='%3U %3S'
+best() { # the least processor time of five runs, in milliseconds
     least=
     for _ in 1 2 3 4 5; do
-        start=$(date +%s%N)
-        "$diecast" run "$1" --host-ticks "$2" --view journal > journal.txt
-        took=$(( ($(date +%s%N) - start) / 1000 ))
+        took=$({ time "$diecast" run "$1" --host-ticks "$2" --view journal > journal.txt; } 2>&1 | awk '{ printf "%d", 1000 * ($1 + $2) }')
         if [ -z "$least" ] || [ "$took" -lt "$least" ]; then least=$took; fi
     done
     made=$(grep -c instr journal.txt)
@@ -45,4 +44,4 @@ best() { # the least of five times, in microseconds
 best one.toml "$((steps / rate))"; one=$least
 best many.toml "$((steps / rate / 8))"; many=$least
 awk "BEGIN { printf \"steps %d  rate %d  one guest %.1f ns a step  32 guests %.1f ns a step  ratio %.2f\n\",
-    $steps, $rate, 1000 * $one / $steps, 1000 * $many / $steps, $many / $one }"
+    $steps, $rate, 1000000 * $one / $steps, 1000000 * $many / $steps, $many / $one }"
