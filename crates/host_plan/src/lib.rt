@@ -13,7 +13,7 @@ mod seats;
 mod tests;
 
 pub use least::Least;
-pub use need::{check, least_factor, slot_need};
+pub use need::{check, least_factor, slot_have, slot_need};
 pub use overload::Overload;
 pub use placement::Placement;
 pub use planner::place;

@@ -9,7 +9,7 @@ use crate::overload::Overload;
 use crate::placement::Placement;
 use exp_file::Experiment;
 
-/// The sum of the rates of the guests that a placement puts on a slot.
+/// The sum of the rates of the guests that a placement puts on a slot. It takes no memory.
 pub fn slot_need(e: &Experiment, p: &Placement, slot: u32) -> u64
     requires well_formed { IsWellFormed e.now }
     requires placement { IsPlacement e.now p.now.slots.items }
@@ -35,8 +35,8 @@ pub(crate) fn rate_on(home: Option<u32>, slot: u32, rate: u32) -> u64
     }
 }
 
-/// What a slot has: its capacity times the factor.
-pub(crate) fn have(e: &Experiment, slot: u32) -> u64
+/// What a slot has under the experiment's factor: its capacity times the factor. It takes no memory.
+pub fn slot_have(e: &Experiment, slot: u32) -> u64
     requires well_formed { IsWellFormed e.now }
     requires slot { slot < length e.now.slots.items }
     ensures have { result ≡ have e.now slot }
@@ -66,7 +66,7 @@ pub fn check(e: &Experiment, p: &Placement) -> Result<(), Overload>
 {
     for slot in 0..e.slots.len() as u32 {
         let need = slot_need(e, p, slot);
-        let have = have(e, slot);
+        let have = slot_have(e, slot);
         if have < need {
             return Err(Overload { slot, need, have });
         }

@@ -5,7 +5,7 @@ ghost use Rattle.host_plan.specs.Placing.{seat_of, need_so_far, loads_of};
 ghost use Rattle.host_plan.specs.Bounds.{AreSeats};
 
 use crate::load::Load;
-use crate::need::{have, rate_on};
+use crate::need::{rate_on, slot_have};
 use crate::seat::Seat;
 use exp_file::{Experiment, GuestSpec};
 use std::alloc::Global;
@@ -49,7 +49,7 @@ pub(crate) fn loads_of(alloc: Global, e: &Experiment, seats: &[Seat]) -> Result<
     for slot in 0..e.slots.len() as u32 {
         let load = Load {
             need: need_so_far(seats, slot),
-            have: have(e, slot),
+            have: slot_have(e, slot),
         };
         match loads.push(load) {
             Ok(()) => (),

@@ -3,7 +3,8 @@ use Rattle.std.proofs.Common.{◌≡◌, ℕ, ◌≤◌, List, Result, Ok, Err, 
 use Rattle.std.specs.Prelude.{◌⊎◌}
 use Rattle.tb_base.specs.declared.limits.TheConstants.{EXPERIMENT_FILE}
 use Rattle.exp_file.specs.declared.experiment.Experiment.{Experiment}
-use Rattle.host_plan.specs.Fits.{Fits}
+use Rattle.host_plan.specs.Fits.{Fits, IsFirstOverload}
+use Rattle.host_plan.specs.declared.overload.Overload.{Overload}
 use Rattle.host_plan.specs.Placing.{placed}
 use Rattle.bench_build.specs.declared.build_fault.BuildFault.TheVariants as build
 use Rattle.tb_top.specs.declared.fetch.Missed.TheVariants.{Failed, TooLong, NoMemory}
@@ -12,39 +13,47 @@ use Rattle.tb_top.specs.declared.load.LoadErr.TheVariants as load
 use Rattle.tb_top.specs.declared.run.RunErr.{RunErr}
 use Rattle.tb_top.specs.declared.run.RunErr.TheVariants as run
 use Rattle.tb_top.specs.declared.status.Status.{Status}
-use Rattle.tb_top.specs.declared.status.Status.TheVariants.{Done, WriteFault, Memory}
+use Rattle.tb_top.specs.declared.status.Status.TheVariants.{Done, Overload as Over, WriteFault, Memory}
 use Rattle.tb_top.specs.Ends.{World, Ends, Placed, Quiet, IsPartPut, load_status}
 use Rattle.tb_top.specs.Loads.{AllLoad}
 use Rattle.tb_top.specs.Reads.{IsRead, Says, AreLoaded}
 use Rattle.tb_top.specs.Runs.{PutsPart, Runs}
-use Rattle.tb_top.specs.Words.{IsCommand}
+use Rattle.tb_top.specs.declared.words.Task.{Task}
+use Rattle.tb_top.specs.declared.words.Task.TheVariants.{Run}
+use Rattle.tb_top.specs.Words.{IsRunOf}
 use Rattle.tb_top.proofs.Putting.{rose_since}
 
 -- the words ask for a run of this experiment, for n host ticks, and its placement fits
 pub record IsAsked (w : World) (n : ℕ) (e : Experiment) : Type 0 where
   pub name : List ℕ
   pub bytes : List ℕ
-  pub command : IsCommand w.words name n
+  pub command : IsRunOf w.words name n
   pub read : IsRead (w.held name) EXPERIMENT_FILE bytes
   pub says : Says bytes e
   pub fits : Fits e (placed e)
 
-pub asked : (w : World) (n : ℕ) (e : Experiment) (slots name bytes : List ℕ) → IsCommand w.words name n → IsRead (w.held name) EXPERIMENT_FILE bytes → Says bytes e
+pub asked : (w : World) (n : ℕ) (e : Experiment) (slots name bytes : List ℕ) → IsRunOf w.words name n → IsRead (w.held name) EXPERIMENT_FILE bytes → Says bytes e
     → slots ≡ placed e → Fits e slots → IsAsked w n e
 asked w n e slots name bytes command read says same fits =
     record { name = name; bytes = bytes; command = command; read = read; says = says; fits = subst (λ (p : List ℕ). Fits e p) same fits }
 
-at_placed : (w : World) (n : ℕ) (e : Experiment) (P : ℕ → Experiment → Type 0) → IsAsked w n e → P n e → Placed w P
-at_placed w n e P k p = (k.name, (n, k.command, (k.bytes, k.read, (e, k.says, (k.fits, p)))))
+at_placed : (w : World) (n : ℕ) (e : Experiment) (P : Task → Experiment → Type 0) → IsAsked w n e → P (Run n) e → Placed w P
+at_placed w n e P k p = (k.name, (Run n, k.command, (k.bytes, k.read, (e, k.says, (k.fits, p)))))
+
+-- the placement does not fit
+pub ends_over : (w : World) (n : ℕ) (e : Experiment) (slots name b : List ℕ) (o : Overload) → IsRunOf w.words name n → IsRead (w.held name) EXPERIMENT_FILE b → Says b e → slots ≡ placed e
+    → IsFirstOverload e slots o → Quiet w → Ends w (Over o.slot o.need o.have)
+ends_over w n e slots name b o command read says same over quiet =
+    (name, (Run n, command, (b, read, (e, says, (subst (λ (p : List ℕ). IsFirstOverload e p o) same over, quiet)))))
 
 -- the images were not all taken
 pub ends_load : (w : World) (n : ℕ) (e : Experiment) (since : ℕ) (Taken : List (List ℕ) → Type 0) (fault : LoadErr) → IsAsked w n e → Quiet w → w.file_faults.0 ≤ since
     → AllLoad w.held e.guests.items since w.file_faults.1 w.fault_name Taken (Err fault) → Ends w (load_status fault)
 ends_load w n e since Taken (load.Missed i Failed) k quiet later stops =
-    (quiet, at_placed w n e _ k (record { images = stops.images; loaded = stops.loaded; guest = stops.guest; at = stops.at; why = (rose_since _ since _ later stops.why.0, stops.why.1) }))
-ends_load w n e since Taken (load.Missed i TooLong) k quiet later stops = (quiet, at_placed w n e _ k (record { images = stops.images; loaded = stops.loaded; guest = stops.guest; at = stops.at; why = stops.why }))
+    (quiet, at_placed w n e _ k (tt, record { images = stops.images; loaded = stops.loaded; guest = stops.guest; at = stops.at; why = (rose_since _ since _ later stops.why.0, stops.why.1) }))
+ends_load w n e since Taken (load.Missed i TooLong) k quiet later stops = (quiet, at_placed w n e _ k (tt, record { images = stops.images; loaded = stops.loaded; guest = stops.guest; at = stops.at; why = stops.why }))
 ends_load w n e since Taken (load.Missed i NoMemory) k quiet later stops = inl quiet
-ends_load w n e since Taken (load.Build (build.Image i fault)) k quiet later stops = (quiet, at_placed w n e _ k stops)
+ends_load w n e since Taken (load.Build (build.Image i fault)) k quiet later stops = (quiet, at_placed w n e _ k (tt, stops))
 ends_load w n e since Taken (load.Build build.NoMemory) k quiet later stops = inl quiet
 
 -- the status of a run
@@ -55,7 +64,7 @@ run_status (Err run.WriteFailed) = WriteFault
 
 part_put : (w : World) (n : ℕ) (e : Experiment) (images : List (List ℕ)) → IsAsked w n e → AreLoaded w.held e.guests.items images
     → PutsPart e (placed e) images n w.taken.0 w.taken.1 → IsPartPut w
-part_put w n e images k loaded part = at_placed w n e _ k (images, loaded, part)
+part_put w n e images k loaded part = (k.name, (Run n, k.command, (k.bytes, k.read, (e, k.says, (k.fits, (images, loaded, part))))))
 
 memory_ends : (w : World) (n : ℕ) (e : Experiment) (images : List (List ℕ)) → IsAsked w n e → AreLoaded w.held e.guests.items images
     → Quiet w ⊎ PutsPart e (placed e) images n w.taken.0 w.taken.1 → Quiet w ⊎ IsPartPut w

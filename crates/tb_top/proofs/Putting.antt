@@ -23,7 +23,7 @@ pub rose_until : (a b c : ℕ) → Rose a b → b ≤ c → Rose a c
 rose_until a b c r h = omega arith
 
 -- all of a text is a prefix of it
-part_of : (before now : Option (List ℕ)) (text : List ℕ) → Takes before now text → TakesPart before now text
+pub part_of : (before now : Option (List ℕ)) (text : List ℕ) → Takes before now text → TakesPart before now text
 part_of before now text t = (text, record { rest = []; whole = sym (append-nil text) }, t)
 
 -- what a keeper stands for, whether or not it failed

@@ -8,19 +8,22 @@ ghost use Rattle.host_plan.specs.Placing.{placed};
 ghost use Rattle.tb_top.specs.Lines.{Told};
 ghost use Rattle.tb_base.specs.declared.limits.TheConstants.{EXPERIMENT_FILE};
 ghost use Rattle.host_plan.specs.Fits.{Fits, IsPlacement};
-ghost use Rattle.tb_top.specs.Ends.{Ends, world, MayRun, missed_status, load_status};
+ghost use Rattle.tb_top.specs.Ends.{Ends, world, Asks, MayRun, missed_status, fit_status, load_status};
 ghost use Rattle.tb_top.specs.Reads.{IsRead, Says};
-ghost use Rattle.tb_top.specs.Words.{IsCommand};
+ghost use Rattle.tb_top.specs.Plans.{Plans};
+ghost use Rattle.tb_top.specs.Words.{IsCommand, IsRunOf, IsWithinLimit};
+ghost use Rattle.tb_top.specs.declared.words.Task.{Task};
 
 use crate::fetch::{Missed, fetch};
 use crate::load::{LoadErr, load_images};
 use crate::report::tell;
 use crate::run::{RunErr, run};
 use crate::status::{FileId, Status};
-use crate::words::{Command, read_words};
+use crate::words::{Command, Task, read_words};
 use bench_build::{BuildFault, Builder};
 use exp_file::{ExpErr, Experiment, read_experiment};
-use host_plan::{Placement, check, place};
+use host_plan::{Overload, Placement, check, place};
+use plan_text::{PlanErr, put_plan};
 use std::alloc::Global;
 use tb_base::limits::EXPERIMENT_FILE;
 use tb_io::{Files, Sink};
@@ -36,12 +39,17 @@ pub fn diecast<F: Files, O: Sink, M: Sink>(
     msg: &mut M,
 ) -> Status
     // What the status says and what `out` has taken: with `Done`, the text of a complete legal
-    // journal of the very experiment and images that were read.
+    // journal of the very experiment and images that were read, or the plan of that experiment.
     ensures ends { Ends (world (map string_bytes words.now) (F.held files.old) (F.faults files.old) (F.faults files.new) (F.fault_name files.new) (O.taken out.old) (O.taken out.new) (O.faults out.old) (O.faults out.new)) result }
 
     // Where all that is told is right and nothing fails, a run comes to its end, or finds no memory.
     ensures complete { (e : Experiment) → MayRun (map string_bytes words.now) (F.held files.old) e
         → ¬ Rose (F.faults files.old) (F.faults files.new) → ¬ Rose (O.faults out.old) (O.faults out.new) → (result ≡ Status.Done) ⊎ (result ≡ Status.Memory) }
+
+    // Where the file of a plan is told and right and no file fails, the plan is put and the status
+    // says whether it fits, but for a failed put and want of memory.
+    ensures planned { (e : Experiment) → Asks (map string_bytes words.now) (F.held files.old) Task.Plan e
+        → ¬ Rose (F.faults files.old) (F.faults files.new) → Plans e (placed e) (O.taken out.old) (O.taken out.new) (O.faults out.old) (O.faults out.new) result }
 
     // The line of the status, where `msg` did not fail.
     ensures told { Told result (M.taken msg.old) (M.taken msg.new) (M.faults msg.old) (M.faults msg.new) }
@@ -60,15 +68,15 @@ fn work<F: Files, O: Sink>(alloc: Global, words: &[String], files: &mut F, out: 
     }
 }
 
-/// Reads the experiment of a command, and runs it.
+/// Reads the experiment of a command, and does its task.
 fn run_command<F: Files, O: Sink>(
     alloc: Global,
     command: Command<'_>,
     files: &mut F,
     out: &mut O,
 ) -> Status
-    requires { command.host_ticks ≤ 1000000 }
-    ensures { (words : List (List ℕ)) → IsCommand words command.entry.file.now command.entry.host_ticks →
+    requires { IsWithinLimit command.task }
+    ensures { (words : List (List ℕ)) → IsCommand words command.entry.file.now command.entry.task →
         Ends (world words (F.held files.old) (F.faults files.old) (F.faults files.new) (F.fault_name files.new) (O.taken out.old) (O.taken out.new) (O.faults out.old) (O.faults out.new)) result }
 {
     let bytes = match fetch(alloc, files, command.file, EXPERIMENT_FILE) {
@@ -76,16 +84,68 @@ fn run_command<F: Files, O: Sink>(
         Err(missed) => return missed_status(FileId::Experiment, missed),
     };
     match read_experiment(alloc, bytes.as_slice()) {
-        Ok(e) => run_experiment(alloc, &e, command.host_ticks, files, out),
+        Ok(e) => do_task(alloc, &e, command.task, files, out),
         Err(ExpErr::Fault(fault)) => Status::Experiment(fault),
         Err(ExpErr::NoMemory) => Status::Memory,
     }
 }
 
-/// Places the guests of an experiment, and runs it where that fits.
-fn run_experiment<F: Files, O: Sink>(
+/// Places the guests of an experiment, and runs it or puts its plan.
+fn do_task<F: Files, O: Sink>(
     alloc: Global,
     e: &Experiment,
+    task: Task,
+    files: &mut F,
+    out: &mut O,
+) -> Status
+    requires well_formed { IsWellFormed e.now }
+    requires built { is_built e.now ≡ true }
+    requires few { IsWithinLimit task }
+    ensures { (words : List (List ℕ)) (name b : List ℕ) (before : ℕ) → IsCommand words name task → IsRead (F.held files.old name) EXPERIMENT_FILE b → Says b e.now → before ≤ F.faults files.old →
+        Ends (world words (F.held files.old) before (F.faults files.new) (F.fault_name files.new) (O.taken out.old) (O.taken out.new) (O.faults out.old) (O.faults out.new)) result }
+{
+    let placement = match place(alloc, e) {
+        Ok(placement) => placement,
+        Err(_) => return Status::Memory,
+    };
+    match task {
+        Task::Run { host_ticks } => run_checked(alloc, e, &placement, host_ticks, files, out),
+        Task::Plan => plan_placed(alloc, e, &placement, out),
+    }
+}
+
+/// Puts the plan of an experiment, and says whether it fits.
+fn plan_placed<O: Sink>(alloc: Global, e: &Experiment, placement: &Placement, out: &mut O) -> Status
+    requires well_formed { IsWellFormed e.now }
+    requires placement { IsPlacement e.now placement.now.slots.items }
+    ensures { Plans e.now placement.now.slots.items (O.taken out.old) (O.taken out.new) (O.faults out.old) (O.faults out.new) result }
+{
+    match put_plan(alloc, e, placement, out) {
+        Ok(()) => fit_status(check(e, placement)),
+        Err(PlanErr::NoMemory) => Status::Memory,
+        Err(PlanErr::Failed) => Status::WriteFault,
+    }
+}
+
+/// The status of a command that is at its end, by whether the placement fits.
+fn fit_status(fit: Result<(), Overload>) -> Status
+    ensures { result ≡ fit_status fit }
+{
+    match fit {
+        Ok(()) => Status::Done,
+        Err(over) => Status::Overload {
+            slot: over.slot,
+            need: over.need,
+            have: over.have,
+        },
+    }
+}
+
+/// Runs an experiment, where its placement fits.
+fn run_checked<F: Files, O: Sink>(
+    alloc: Global,
+    e: &Experiment,
+    placement: &Placement,
     host_ticks: u64,
     files: &mut F,
     out: &mut O,
@@ -93,20 +153,14 @@ fn run_experiment<F: Files, O: Sink>(
     requires well_formed { IsWellFormed e.now }
     requires built { is_built e.now ≡ true }
     requires few { host_ticks ≤ 1000000 }
-    ensures { (words : List (List ℕ)) (name b : List ℕ) (before : ℕ) → IsCommand words name host_ticks → IsRead (F.held files.old name) EXPERIMENT_FILE b → Says b e.now → before ≤ F.faults files.old →
+    requires placed { placement.now.slots.items ≡ placed e.now }
+    requires placement { IsPlacement e.now placement.now.slots.items }
+    ensures { (words : List (List ℕ)) (name b : List ℕ) (before : ℕ) → IsRunOf words name host_ticks → IsRead (F.held files.old name) EXPERIMENT_FILE b → Says b e.now → before ≤ F.faults files.old →
         Ends (world words (F.held files.old) before (F.faults files.new) (F.fault_name files.new) (O.taken out.old) (O.taken out.new) (O.faults out.old) (O.faults out.new)) result }
 {
-    let placement = match place(alloc, e) {
-        Ok(placement) => placement,
-        Err(_) => return Status::Memory,
-    };
-    match check(e, &placement) {
-        Ok(()) => run_placed(alloc, e, &placement, host_ticks, files, out),
-        Err(over) => Status::Overload {
-            slot: over.slot,
-            need: over.need,
-            have: over.have,
-        },
+    match check(e, placement) {
+        Ok(()) => run_placed(alloc, e, placement, host_ticks, files, out),
+        Err(over) => fit_status(Err(over)),
     }
 }
 
@@ -125,7 +179,7 @@ fn run_placed<F: Files, O: Sink>(
     requires placed { placement.now.slots.items ≡ placed e.now }
     requires placement { IsPlacement e.now placement.now.slots.items }
     requires fits { Fits e.now placement.now.slots.items }
-    ensures { (words : List (List ℕ)) (name b : List ℕ) (before : ℕ) → IsCommand words name host_ticks → IsRead (F.held files.old name) EXPERIMENT_FILE b → Says b e.now → before ≤ F.faults files.old →
+    ensures { (words : List (List ℕ)) (name b : List ℕ) (before : ℕ) → IsRunOf words name host_ticks → IsRead (F.held files.old name) EXPERIMENT_FILE b → Says b e.now → before ≤ F.faults files.old →
         Ends (world words (F.held files.old) before (F.faults files.new) (F.fault_name files.new) (O.taken out.old) (O.taken out.new) (O.faults out.old) (O.faults out.new)) result }
 {
     let mut builder = match Builder::new(alloc, e, placement) {

@@ -1,22 +1,32 @@
 //! The words of a command.
 ghost use Rattle.std.specs.Prelude.{◌≡◌, ℕ, ◌<◌, ◌≤◌, ◌^◌, List, [], ◌∷◌, map, string_bytes, length, codes, IsTrue, ◌↔◌, MatchOption};
 ghost use Rattle.std.specs.Fmt.{decimal};
-ghost use Rattle.tb_top.specs.Words.{Commands, IsRun};
+ghost use Rattle.tb_top.specs.Words.{Commands, IsRun, IsPlan};
 
 use tb_base::limits::HOST_TICKS;
 use tb_text::read_dec;
 
-/// What the words ask for: a run of the experiment in a file, for so many host ticks.
+/// What is done with an experiment.
+#[derive(Clone, Copy, Debug)]
+pub(crate) enum Task {
+    /// It is run for so many host ticks.
+    Run { host_ticks: u64 },
+    /// Its plan is put.
+    Plan,
+}
+
+/// What the words ask for: a task with the experiment in a file.
 #[derive(Clone, Copy, Debug)]
 pub(crate) struct Command<'a> {
     pub file: &'a str,
-    pub host_ticks: u64,
+    pub task: Task,
 }
 
 /// Why the words are refused.
 #[derive(Clone, Copy, Debug, PartialEq, Eq)]
 pub enum WordFault {
-    /// They are not of the form `run FILE --host-ticks N --view journal`.
+    /// They are not of a form that a command has: `run FILE --host-ticks N --view journal` or
+    /// `plan FILE`.
     NotWords,
     /// FILE is empty.
     EmptyName,
@@ -41,21 +51,45 @@ fn are_fixed(run: &str, ticks: &str, view: &str, journal: &str) -> bool
     run == "run" && ticks == "--host-ticks" && view == "--view" && journal == "journal"
 }
 
-/// The command with this file and this number.
-fn command_of<'a>(file: &'a str, number: &str) -> Result<Command<'a>, WordFault>
+/// The run of this file, for this number of host ticks.
+fn run_of<'a>(file: &'a str, number: &str) -> Result<Command<'a>, WordFault>
     ensures { (words : List (List ℕ)) → IsRun words file.now number.now → Commands words result }
 {
     if file.is_empty() {
         return Err(WordFault::EmptyName);
     }
     match host_ticks_of(number) {
-        Some(host_ticks) => Ok(Command { file, host_ticks }),
+        Some(host_ticks) => Ok(Command {
+            file,
+            task: Task::Run { host_ticks },
+        }),
         None => Err(WordFault::BadNumber),
     }
 }
 
-/// The command that the words give, or why they are refused.
-pub(crate) fn read_words(words: &[String]) -> Result<Command<'_>, WordFault>
+/// Whether this is the first word of a plan.
+fn is_plan(word: &str) -> bool
+    ensures { IsTrue result ↔ (word.now ≡ codes "plan") }
+{
+    word == "plan"
+}
+
+/// The plan of this file.
+fn plan_of(file: &str) -> Result<Command<'_>, WordFault>
+    ensures { (words : List (List ℕ)) → IsPlan words file.now → Commands words result }
+{
+    if file.is_empty() {
+        return Err(WordFault::EmptyName);
+    }
+    Ok(Command {
+        file,
+        task: Task::Plan,
+    })
+}
+
+/// The command that the words give, where they are not two.
+fn read_run(words: &[String]) -> Result<Command<'_>, WordFault>
+    requires { ¬ (length words.now ≡ 2) }
     ensures { Commands (map string_bytes words.now) result }
 {
     let [run, file, ticks, number, view, journal] = words else {
@@ -64,5 +98,18 @@ pub(crate) fn read_words(words: &[String]) -> Result<Command<'_>, WordFault>
     if !are_fixed(run, ticks, view, journal) {
         return Err(WordFault::NotWords);
     }
-    command_of(file, number)
+    run_of(file, number)
+}
+
+/// The command that the words give, or why they are refused.
+pub(crate) fn read_words(words: &[String]) -> Result<Command<'_>, WordFault>
+    ensures { Commands (map string_bytes words.now) result }
+{
+    let [plan, file] = words else {
+        return read_run(words);
+    };
+    if !is_plan(plan) {
+        return Err(WordFault::NotWords);
+    }
+    plan_of(file)
 }

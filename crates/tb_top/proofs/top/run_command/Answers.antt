@@ -14,6 +14,6 @@ returns-in-Ok-read_experiment g c = λ words command.
     let says = ap reading (sym c.as_slice.ensures) ∙ c.in-Ok-read_experiment.ensures.reading in
     subst
     (λ (h : List ℕ → Option (List ℕ)).
-    Ends (world words h (g.F.Files.faults c.args.files.now) (g.F.Files.faults c.run_experiment.new.files) (g.F.Files.fault_name c.run_experiment.new.files)
-    (g.O.Sink.taken c.args.out.now) (g.O.Sink.taken c.run_experiment.new.out) (g.O.Sink.faults c.args.out.now) (g.O.Sink.faults c.run_experiment.new.out)) c.run_experiment.result)
-    same (c.run_experiment.ensures words name c.in-Ok.bytes (g.F.Files.faults c.args.files.now) command read says c.in-Ok.ensures.later)
+    Ends (world words h (g.F.Files.faults c.args.files.now) (g.F.Files.faults c.do_task.new.files) (g.F.Files.fault_name c.do_task.new.files)
+    (g.O.Sink.taken c.args.out.now) (g.O.Sink.taken c.do_task.new.out) (g.O.Sink.faults c.args.out.now) (g.O.Sink.faults c.do_task.new.out)) c.do_task.result)
+    same (c.do_task.ensures words name c.in-Ok.bytes (g.F.Files.faults c.args.files.now) command read says c.in-Ok.ensures.later)

@@ -1,18 +1,14 @@
--- The words are the six that were looked at.
+-- The words are the two that were looked at.
 use Rattle.std.proofs.Common.{◌≡◌, ℕ, List, [], ◌∷◌, map, string_bytes, codes, refl, sym, ap, ◌∙◌}
-use Rattle.tb_top.specs.Words.{IsRun}
-use Rattle.tb_top.proofs.Six.{six_items}
+use Rattle.tb_top.specs.Words.{IsPlan}
+use Rattle.tb_top.proofs.Few.{two_items}
 use Rattle.tb_top.proofs.words.read_words.Goals as goal
 
-run_of_six : (r f t n v j file number : List ℕ) → r ≡ codes "run" → t ≡ codes "--host-ticks" → v ≡ codes "--view" → j ≡ codes "journal" → f ≡ file → n ≡ number
-    → IsRun (r ∷ f ∷ t ∷ n ∷ v ∷ j ∷ []) file number
-run_of_six r f t n v j file number a b d e g h = cc
+plan_of_two : (p f file : List ℕ) → p ≡ codes "plan" → f ≡ file → IsPlan (p ∷ f ∷ []) file
+plan_of_two p f file a b = cc
 
 pub returns : goal.returns
 returns c =
-    let all = six_items c.args.words.now c.run-item.result c.file-item.result c.ticks-item.result c.number-item.result c.view-item.result c.journal-item.result
-    c.in-len6.len_at_least c.in-len6.len_below c.run-item.is c.file-item.is c.ticks-item.is c.number-item.is c.view-item.is c.journal-item.is in
-    let fixed = c.if-not-are_fixed.ensures.0 refl in
-    c.command_of.ensures _ (ap (map string_bytes) all
-    ∙ run_of_six _ _ _ _ _ _ _ _ (sym c.deref.ensures ∙ fixed.0) (sym c.deref-2.ensures ∙ fixed.1) (sym c.deref-3.ensures ∙ fixed.2) (sym c.deref-4.ensures ∙ fixed.3)
-    (sym c.deref-5.ensures) (sym c.deref-6.ensures))
+    let all = two_items c.args.words.now c.plan-item.result c.file-item.result c.in-len2.len_at_least c.in-len2.len_below c.plan-item.is c.file-item.is in
+    let fixed = c.if-not-is_plan.ensures.0 refl in
+    c.plan_of.ensures _ (ap (map string_bytes) all ∙ plan_of_two _ _ _ (sym c.deref.ensures ∙ fixed) (sym c.deref-2.ensures))

@@ -1,0 +1,10 @@
+-- When it may be said that a put of a plan failed.
+use Rattle.std.specs.Prelude.{◌≡◌, ℕ, ◌≤◌, Result, Err}
+use Rattle.tb_io.specs.Causes.{Rose}
+use Rattle.plan_text.specs.declared.plan_err.PlanErr.{PlanErr}
+use Rattle.plan_text.specs.declared.plan_err.PlanErr.TheVariants.{Failed}
+
+-- the sink's count never falls, and `Failed` comes only where it rose
+pub record PlanCause {T : Type 0} (before now : ℕ) (result : Result T PlanErr) : Type 0 where
+  pub later : before ≤ now
+  pub failed : result ≡ Err Failed → Rose before now

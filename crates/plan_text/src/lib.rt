@@ -1,0 +1,10 @@
+//! The plan of an experiment as text: where its guests stand, what each slot needs and has, from which factor on that fits.
+#![tactic(auto)]
+
+mod lines;
+mod plan;
+mod plan_err;
+mod put;
+
+pub use plan_err::PlanErr;
+pub use put::put_plan;

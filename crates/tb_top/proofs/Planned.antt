@@ -1,0 +1,106 @@
+-- How a plan ends, in what a status says and where its file is told.
+use Rattle.std.proofs.Common.{◌≡◌, ℕ, ◌⊎◌, false, List, Option, inl, inr, sym, subst}
+use Rattle.tb_base.specs.declared.limits.TheConstants.{EXPERIMENT_FILE}
+use Rattle.tb_io.specs.Causes.{Rose}
+use Rattle.exp_file.specs.declared.experiment.Experiment.{Experiment}
+use Rattle.host_plan.specs.Placing.{placed}
+use Rattle.plan_text.specs.Puts.{PutsPlan, PutsPlanPart}
+use Rattle.plan_text.specs.Texts.{plan_text}
+use Rattle.bench_build.specs.declared.build_fault.BuildFault.TheVariants as build
+use Rattle.tb_top.specs.declared.status.FileId.TheVariants as file
+use Rattle.tb_top.specs.declared.status.Status.{Status}
+use Rattle.tb_top.specs.declared.status.Status.TheVariants.{Done, Overload as Over, Usage, Experiment as Refused, Build, TooLong, ReadFault, WriteFault, Memory}
+use Rattle.tb_top.specs.declared.words.Task.{Task}
+use Rattle.tb_top.specs.declared.words.Task.TheVariants.{Run, Plan}
+use Rattle.tb_top.specs.Ends.{World, Ends, Asks, WellFormed, IsToRun, PutsTask, PutsTaskPart, PutsOver}
+use Rattle.tb_top.specs.Lines.{is_done}
+use Rattle.tb_top.specs.Plans.{Plans}
+use Rattle.tb_top.specs.Reads.{IsRead, Says}
+use Rattle.tb_top.specs.Words.{IsCommand, IsPlanOf}
+use Rattle.tb_top.proofs.Asked.{run_no_plan, usage_not, file_short, refused_not, says_same}
+use Rattle.tb_top.proofs.Putting.{part_of}
+use Rattle.tb_top.proofs.Room.{fits_room, overload_room, puts_room, part_room}
+
+-- a plan that was put is a prefix of itself
+pub plan_part : (e : Experiment) (p : List ℕ) (old new : Option (List ℕ)) → PutsPlan e p old new → PutsPlanPart e p old new
+plan_part e p old new puts = (puts.0, puts.1, part_of old new (plan_text e p puts.0) puts.2)
+
+-- the words ask for the plan of this experiment
+at_plan : (w : World) (e : Experiment) (name b : List ℕ) (P : Task → Experiment → Type 0) → IsPlanOf w.words name → IsRead (w.held name) EXPERIMENT_FILE b → Says b e → P Plan e → WellFormed w P
+at_plan w e name b P command read says h = (name, (Plan, command, (b, read, (e, says, h))))
+
+pub ends_plan : (w : World) (e : Experiment) (name b : List ℕ) (s : Status) → IsPlanOf w.words name → IsRead (w.held name) EXPERIMENT_FILE b → Says b e
+    → Plans e (placed e) w.taken.0 w.taken.1 w.out_faults.0 w.out_faults.1 s → Ends w s
+ends_plan w e name b Done command read says (fits, puts) = (name, (Plan, command, (b, read, (e, says, (fits, puts)))))
+ends_plan w e name b (Over slot need have) command read says (over, puts) = (name, (Plan, command, (b, read, (e, says, (over, puts)))))
+ends_plan w e name b WriteFault command read says (rose, part) = (rose, (name, (Plan, command, (b, read, (e, says, part)))))
+ends_plan w e name b Memory command read says (inl quiet) = inl quiet
+ends_plan w e name b Memory command read says (inr part) = inr (name, (Plan, command, (b, read, (e, says, part))))
+ends_plan w e name b (Usage f) command read says ends = absurd ends
+ends_plan w e name b (Refused f) command read says ends = absurd ends
+ends_plan w e name b (Build f) command read says ends = absurd ends
+ends_plan w e name b (TooLong f) command read says ends = absurd ends
+ends_plan w e name b (ReadFault f) command read says ends = absurd ends
+
+-- what is said of every other status is said of want of memory too
+over_memory : (w : World) (e : Experiment) (name b : List ℕ) (t : Task) → IsCommand w.words name t → IsRead (w.held name) EXPERIMENT_FILE b → Says b e → PutsOver w t e → Ends w Memory
+over_memory w e name b (Run n) command read says quiet = inl quiet
+over_memory w e name b Plan command read says puts = inr (name, (Plan, command, (b, read, (e, says, plan_part e (placed e) w.taken.0 w.taken.1 puts))))
+
+ends_memory : (w : World) (s : Status) → is_done s ≡ false → Ends w s → Ends w Memory
+ends_memory w Done not ends = absurd (cc not)
+ends_memory w (Over slot need have) not (name, (t, command, (b, read, (e, says, (over, puts))))) = over_memory w e name b t command read says puts
+ends_memory w WriteFault not (rose, part) = inr part
+ends_memory w Memory not ends = ends
+ends_memory w (Usage f) not (quiet, h) = inl quiet
+ends_memory w (Refused f) not (quiet, h) = inl quiet
+ends_memory w (Build (build.Image i f)) not (quiet, h) = inl quiet
+ends_memory w (Build build.NoMemory) not ends = absurd ends
+ends_memory w (TooLong file.Experiment) not (quiet, h) = inl quiet
+ends_memory w (TooLong (file.Image i)) not (quiet, h) = inl quiet
+ends_memory w (TooLong (file.Disk i)) not ends = absurd ends
+ends_memory w (ReadFault file.Experiment) not (quiet, h) = inl quiet
+ends_memory w (ReadFault (file.Image i)) not (quiet, h) = inl quiet
+ends_memory w (ReadFault (file.Disk i)) not ends = absurd ends
+
+-- the status of the command, or want of memory for its line
+pub ends_told : (w : World) (s r : Status) → (s ≡ r) ⊎ ((s ≡ Memory) × (is_done r ≡ false)) → Ends w r → Ends w s
+ends_told w s r (inl same) ends = subst (λ (z : Status). Ends w z) (sym same) ends
+ends_told w s r (inr (memory, not)) ends = subst (λ (z : Status). Ends w z) (sym memory) (ends_memory w r not ends)
+
+-- what out has taken, of the experiment that the file says
+module _ (w : World) (e : Experiment) (asks : Asks w.words w.held Plan e) where
+  done_plan : (f : Experiment) (name b : List ℕ) (t : Task) → IsCommand w.words name t → IsRead (w.held name) EXPERIMENT_FILE b → Says b f → PutsTask w t f → PutsPlan e (placed e) w.taken.0 w.taken.1
+  done_plan f name b (Run n) command read says puts = absurd (run_no_plan w.words name asks.name _ command.form asks.command.form)
+  done_plan f name b Plan command read says puts = puts_room w.taken.0 w.taken.1 f e (sym (says_same w Plan Plan e f asks name b command read says)) puts
+
+  over_plan : (f : Experiment) (name b : List ℕ) (t : Task) → IsCommand w.words name t → IsRead (w.held name) EXPERIMENT_FILE b → Says b f → PutsOver w t f → PutsPlan e (placed e) w.taken.0 w.taken.1
+  over_plan f name b (Run n) command read says puts = absurd (run_no_plan w.words name asks.name _ command.form asks.command.form)
+  over_plan f name b Plan command read says puts = puts_room w.taken.0 w.taken.1 f e (sym (says_same w Plan Plan e f asks name b command read says)) puts
+
+  part_plan : (f : Experiment) (name b : List ℕ) (t : Task) → IsCommand w.words name t → IsRead (w.held name) EXPERIMENT_FILE b → Says b f → PutsTaskPart w t f → PutsPlanPart e (placed e) w.taken.0 w.taken.1
+  part_plan f name b (Run n) command read says puts = absurd (run_no_plan w.words name asks.name _ command.form asks.command.form)
+  part_plan f name b Plan command read says puts = part_room w.taken.0 w.taken.1 f e (sym (says_same w Plan Plan e f asks name b command read says)) puts
+
+  no_image : (name : List ℕ) (t : Task) → IsCommand w.words name t → IsToRun t → ⊥
+  no_image name (Run n) command run = run_no_plan w.words name asks.name _ command.form asks.command.form
+  no_image name Plan command run = run
+
+  pub planned_ends : (s : Status) → Ends w s → ¬ Rose w.file_faults.0 w.file_faults.1 → Plans e (placed e) w.taken.0 w.taken.1 w.out_faults.0 w.out_faults.1 s
+  planned_ends Done (name, (t, command, (b, read, (f, says, (fits, puts))))) files =
+      (fits_room f e (sym (says_same w Plan t e f asks name b command read says)) fits, done_plan f name b t command read says puts)
+  planned_ends (Over slot need have) (name, (t, command, (b, read, (f, says, (over, puts))))) files =
+      (overload_room (record { slot = slot; need = need; have = have }) f e (sym (says_same w Plan t e f asks name b command read says)) over, over_plan f name b t command read says puts)
+  planned_ends WriteFault (rose, (name, (t, command, (b, read, (f, says, part))))) files = (rose, part_plan f name b t command read says part)
+  planned_ends Memory (inl quiet) files = inl quiet
+  planned_ends Memory (inr (name, (t, command, (b, read, (f, says, part))))) files = inr (part_plan f name b t command read says part)
+  planned_ends (Usage f) (quiet, gives) files = absurd (usage_not w Plan e f asks gives)
+  planned_ends (Refused f) (quiet, read) files = absurd (refused_not w Plan e f asks read)
+  planned_ends (TooLong file.Experiment) (quiet, long) files = absurd (file_short w Plan e asks long)
+  planned_ends (TooLong (file.Image i)) (quiet, (name, (t, command, (b, read, (f, says, (fits, (run, stops))))))) files = absurd (no_image name t command run)
+  planned_ends (TooLong (file.Disk i)) ends files = absurd ends
+  planned_ends (ReadFault file.Experiment) (quiet, (name, (t, command, (rose, is)))) files = absurd (files rose)
+  planned_ends (ReadFault (file.Image i)) (quiet, (name, (t, command, (b, read, (f, says, (fits, (run, stops))))))) files = absurd (no_image name t command run)
+  planned_ends (ReadFault (file.Disk i)) ends files = absurd ends
+  planned_ends (Build (build.Image i fault)) (quiet, (name, (t, command, (b, read, (f, says, (fits, (run, stops))))))) files = absurd (no_image name t command run)
+  planned_ends (Build build.NoMemory) ends files = absurd ends
