@@ -1,11 +1,10 @@
 -- One machine more is that of the next guest.
-use Rattle.std.proofs.Common.{◌≡◌, ℕ, ◌<◌, List, [], ◌∷◌, ◌++◌, length, length-append, map, sym, ap, ◌∙◌, subst, arith}
-use Rattle.std.specs.Prelude.{slice_get, slice_index_or, Some}
+use Rattle.std.proofs.Common.{◌≡◌, List, [], ◌∷◌, ◌++◌, length, length-append, map, sym, ap, ◌∙◌, arith}
+use Rattle.std.specs.Prelude.{slice_get}
 use Rattle.std.proofs.lemmas.Iterator.Adapters.{YieldsList-from_vec}
 use Rattle.std.proofs.lemmas.Iterator.Consumers.{YieldsList-turn}
 use Rattle.guest_machine.specs.MachineView.{machine_state}
 use Rattle.guest_machine.specs.Tick.{MachineState}
-use Rattle.bench_build.specs.declared.shape.Shape.{Shape}
 use Rattle.bench_build.specs.Openings.{openings}
 use Rattle.bench_build.proofs.Openings.{get_at, states_push, openings_push}
 use Rattle.bench_build.proofs.machines.machines_for.Goals as goal
