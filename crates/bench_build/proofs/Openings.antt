@@ -1,6 +1,6 @@
 -- Machines that are made one after another.
-use Rattle.std.proofs.Common.{◌≡◌, ℕ, zero, suc, ◌<◌, ◌≤◌, Bool, true, false, cond, List, [], ◌∷◌, ◌++◌, map, length, All, get_or, Option, Some, None, ◌⊎◌, inl, inr, refl, sym, ap, ◌∙◌, subst, arith}
-use Rattle.std.specs.Prelude.{slice_get, slice_index, slice_index_or}
+use Rattle.std.proofs.Common.{◌≡◌, ℕ, zero, suc, ◌<◌, ◌≤◌, List, [], ◌∷◌, ◌++◌, map, length, All, get_or, Option, Some, None, refl, sym, ap, ◌∙◌, subst, arith}
+use Rattle.std.specs.Prelude.{slice_get, slice_index, slice_index_or, Ok, Err}
 use Rattle.std.proofs.lemmas.List.{map-append}
 use Rattle.std.proofs.lemmas.Option.{slice_get-map, get_or_from_slice_get}
 use Rattle.exp_file.specs.declared.guest_spec.GuestSpec.{GuestSpec}
@@ -13,7 +13,14 @@ use Rattle.guest_machine.specs.Opening.{opening}
 use Rattle.guest_machine.specs.MachineView.{machine_state}
 use Rattle.guest_machine.specs.declared.machine.Machine.{Machine}
 use Rattle.bench_build.specs.declared.shape.Shape.{Shape}
-use Rattle.bench_build.specs.Setups.{machines_of, wires_of, shape_of, capacity_of}
+use Rattle.bench_build.specs.declared.loaded.Loaded.{Loaded}
+use Rattle.bench_build.specs.Answers.{LoadedAnswers, ImageAnswers}
+use Rattle.bench_build.specs.Building.{AreLoaded}
+use Rattle.bench_build.specs.declared.build_fault.BuildFault.{BuildFault}
+use Rattle.bench_build.specs.declared.build_fault.BuildFault.TheVariants as build
+use Rattle.bench_build.specs.Images.{image}
+use Rattle.bench_build.specs.Openings.{openings}
+use Rattle.bench_build.specs.Setups.{machines_of, opens, wires_of, shape_of, capacity_of}
 use Rattle.bench_build.specs.Shapes.{IsShape, IsUnbegun, rate_at}
 
 some_is : {A : Type 0} {x y : A} → Some x ≡ Some y → x ≡ y
@@ -22,13 +29,42 @@ some_is e = cc
 none_is_some : {A B : Type 0} {x : A} → None ≡ Some x → B
 none_is_some e = cc
 
--- the machines of one image more
-pub machines_of_push : (gs : List GuestSpec) (images : List (List ℕ)) (image : List ℕ) (g : GuestSpec) → slice_get gs (length images) ≡ Some g →
-    machines_of gs (images ++ image ∷ []) ≡ machines_of gs images ++ opening g.ram g.rate image ∷ []
-machines_of_push [] [] image g at = none_is_some at
-machines_of_push (h ∷ gs) [] image g at = ap (λ (k : GuestSpec). opening k.ram k.rate image ∷ []) (some_is at)
-machines_of_push [] (b ∷ images) image g at = none_is_some at
-machines_of_push (h ∷ gs) (b ∷ images) image g at = ap (λ ms. opening h.ram h.rate b ∷ ms) (machines_of_push gs images image g at)
+-- one image more stands in its RAM
+pub loaded_push : (gs : List GuestSpec) (images : List (List ℕ)) (ls : List Loaded) (b : List ℕ) (l : Loaded) (g : GuestSpec) → AreLoaded gs images ls →
+    slice_get gs (length images) ≡ Some g → image g.format g.ram b ≡ Ok l → AreLoaded gs (images ++ b ∷ []) (ls ++ l ∷ [])
+loaded_push [] [] ls b l g are at is = none_is_some at
+loaded_push (h ∷ gs) [] [] b l g are at is = (subst (λ (k : GuestSpec). image k.format k.ram b ≡ Ok l) (sym (some_is at)) is, tt)
+loaded_push (h ∷ gs) [] (m ∷ ls) b l g are at is = absurd are
+loaded_push [] (c ∷ images) ls b l g are at is = none_is_some at
+loaded_push (h ∷ gs) (c ∷ images) [] b l g are at is = absurd are
+loaded_push (h ∷ gs) (c ∷ images) (m ∷ ls) b l g are at is = (are.0, loaded_push gs images ls b l g are.1 at is)
+
+-- the machines of one guest more
+pub openings_push : (ss : List Shape) (ls : List Loaded) (s : Shape) (l : Loaded) → slice_get ss (length ls) ≡ Some s →
+    openings ss (ls ++ l ∷ []) ≡ openings ss ls ++ opening s.rate l.entry l.ram ∷ []
+openings_push [] [] s l at = none_is_some at
+openings_push (t ∷ ss) [] s l at = ap (λ (k : Shape). opening k.rate l.entry l.ram ∷ []) (some_is at)
+openings_push [] (m ∷ ls) s l at = none_is_some at
+openings_push (t ∷ ss) (m ∷ ls) s l at = ap (λ ms. opening t.rate m.entry m.ram ∷ ms) (openings_push ss ls s l at)
+
+-- the machines of images that stand in RAM are the opening machines of the guests
+pub openings_are : (gs : List GuestSpec) (images : List (List ℕ)) (ls : List Loaded) → AreLoaded gs images ls → openings (map shape_of gs) ls ≡ machines_of gs images
+openings_are [] [] [] are = refl
+openings_are (g ∷ gs) [] [] are = refl
+openings_are gs [] (l ∷ ls) are = absurd are
+openings_are gs (b ∷ images) [] are = absurd are
+openings_are [] (b ∷ images) (l ∷ ls) are = absurd are
+openings_are (g ∷ gs) (b ∷ images) (l ∷ ls) are =
+    ap (λ r. opens g.rate r ∷ openings (map shape_of gs) ls) (sym are.0)
+    ∙ ap (λ ms. opens g.rate (image g.format g.ram b) ∷ ms) (openings_are gs images ls are.1)
+
+-- and none of them has begun a tick
+unbegun_at : (ss : List Shape) (ls : List Loaded) (g : ℕ) (x : MachineState) → slice_get (openings ss ls) g ≡ Some x → IsUnbegun (rate_at ss g) x
+unbegun_at [] [] g x at = none_is_some at
+unbegun_at (s ∷ ss) [] g x at = none_is_some at
+unbegun_at [] (l ∷ ls) g x at = none_is_some at
+unbegun_at (s ∷ ss) (l ∷ ls) zero x at = subst (λ (k : MachineState). IsUnbegun s.rate k) (some_is at) (record { idle = refl; rate_is = refl })
+unbegun_at (s ∷ ss) (l ∷ ls) (suc g) x at = unbegun_at ss ls g x at
 
 -- the states of one machine more
 pub states_push : (ms : List Machine) (m : Machine) → map machine_state (ms ++ m ∷ []) ≡ map machine_state ms ++ machine_state m ∷ []
@@ -54,43 +90,23 @@ shape_at [] i g s at is = none_is_some at
 shape_at (h ∷ gs) zero g s at is = is ∙ ap shape_of (some_is at)
 shape_at (h ∷ gs) (suc i) g s at is = shape_at gs i g s at is
 
--- the rate at a number is that of the shape there
-pub rate_of : (shapes : List Shape) (i : ℕ) (s : Shape) → s ≡ get_or shapes i s → i < length shapes → rate_at shapes i ≡ s.rate
-rate_of [] i s is lt = absurd (omega arith)
-rate_of (h ∷ shapes) zero s is lt = ap (λ (k : Shape). k.rate) (sym is)
-rate_of (h ∷ shapes) (suc i) s is lt = rate_of shapes i s is (omega (arith, lt))
-
--- what is at a place of a list with one item more
-at_more : {A : Type 0} (xs : List A) (x y : A) (i : ℕ) → slice_get (xs ++ x ∷ []) i ≡ Some y → (slice_get xs i ≡ Some y) ⊎ ((i ≡ length xs) × (x ≡ y))
-at_more [] x y zero e = inr (refl, some_is e)
-at_more [] x y (suc i) e = none_is_some e
-at_more (z ∷ xs) x y zero e = inl e
-at_more (z ∷ xs) x y (suc i) e = elim (at_more xs x y i e) [ inl q ↦ inl q | inr q ↦ inr (ap suc q.0, q.1) ]
-
--- one machine more, and none has begun a tick
-pub unbegun_more : (shapes : List Shape) (ms : List Machine) (m : Machine) (s : Shape) (image : List ℕ) →
-    ((g : ℕ) (n : Machine) → slice_get ms g ≡ Some n → IsUnbegun (rate_at shapes g) (machine_state n)) →
-    s ≡ get_or shapes (length ms) s → length ms < length shapes → machine_state m ≡ opening s.ram s.rate image →
-    (g : ℕ) (n : Machine) → slice_get (ms ++ m ∷ []) g ≡ Some n → IsUnbegun (rate_at shapes g) (machine_state n)
-unbegun_more shapes ms m s image all is lt made g n at = elim (at_more ms m n g at) [
-  | inl q ↦ all g n q
-  | inr q ↦
-      let rate : s.rate ≡ rate_at shapes g = sym (ap (rate_at shapes) q.0 ∙ rate_of shapes (length ms) s is lt) in
-      subst (λ (k : Machine). IsUnbegun (rate_at shapes g) (machine_state k)) q.1 (record {
-        idle = ap (λ (k : MachineState). k.clock) made;
-        rate_is = ap (λ (k : MachineState). k.rate) made ∙ rate;
-      })
-]
+-- the state at a machine's place in the list of all states
+at_place : (ms : List Machine) (states : List MachineState) (g : ℕ) (m : Machine) → map machine_state ms ≡ states → slice_get ms g ≡ Some m → slice_get states g ≡ Some (machine_state m)
+at_place ms states g m e at =
+    subst (λ (zs : List MachineState). slice_get zs g ≡ Some (machine_state m)) e (slice_get-map machine_state ms g ∙ ap (λ o. mapped o) at)
+  where
+    mapped : Option Machine → Option MachineState
+    mapped o = elim o [ Some k ↦ Some (machine_state k) | None ↦ None ]
 
 -- a machine stands at its state of the list of all
 pub state_at_place : (ms : List Machine) (states : List MachineState) (g : ℕ) (m : Machine) (d : MachineState) → map machine_state ms ≡ states → slice_get ms g ≡ Some m →
     machine_state m ≡ slice_index_or states g d
-state_at_place ms states g m d e at =
-    let here : slice_get states g ≡ Some (machine_state m) = subst (λ (zs : List MachineState). slice_get zs g ≡ Some (machine_state m)) e (slice_get-map machine_state ms g ∙ ap (λ o. mapped o) at) in
-    sym (get_or_from_slice_get states g (machine_state m) d here)
-  where
-    mapped : Option Machine → Option MachineState
-    mapped o = elim o [ Some k ↦ Some (machine_state k) | None ↦ None ]
+state_at_place ms states g m d e at = sym (get_or_from_slice_get states g (machine_state m) d (at_place ms states g m e at))
+
+-- a machine of these has begun no tick
+pub unbegun_in : (ss : List Shape) (ls : List Loaded) (ms : List Machine) (g : ℕ) (m : Machine) → map machine_state ms ≡ openings ss ls → slice_get ms g ≡ Some m →
+    IsUnbegun (rate_at ss g) (machine_state m)
+unbegun_in ss ls ms g m e at = unbegun_at ss ls g (machine_state m) (at_place ms (openings ss ls) g m e at)
 
 -- the homes of a placement are slots
 pub homes_in_range : (slots homes capacities : List ℕ) (n : ℕ) → homes ≡ slots → length capacities ≡ n → All (λ s. s < n) slots →
@@ -107,35 +123,25 @@ some_at [] i lt = absurd (omega arith)
 some_at (x ∷ xs) zero lt = (x, refl)
 some_at (x ∷ xs) (suc i) lt = some_at xs i (omega (arith, lt))
 
+-- what an index in range finds
+pub get_at : {A : Type 0} (xs : List A) (i : ℕ) (d : A) → i < length xs → slice_get xs i ≡ Some (slice_index_or xs i d)
+get_at [] i d lt = absurd (omega arith)
+get_at (x ∷ xs) zero d lt = refl
+get_at (x ∷ xs) (suc i) d lt = get_at xs i d (omega (arith, lt))
+
 -- the shape at the next guest's number is that guest's
 pub next_shape : (gs : List GuestSpec) (shapes : List Shape) (i n : ℕ) (g : GuestSpec) (s : Shape) → shapes ≡ map shape_of gs → i ≡ n → s ≡ get_or shapes i s →
     slice_get gs n ≡ Some g → s ≡ shape_of g
 next_shape gs shapes i n g s sh e is at =
     shape_at gs n g s at (is ∙ ap (λ (xs : List Shape). get_or xs i s) sh ∙ ap (λ (k : ℕ). get_or (map shape_of gs) k s) e)
 
--- the machines of the guests with one image more
-pub states_more : (gs : List GuestSpec) (shapes : List Shape) (ms after : List Machine) (m : Machine) (images : List (List ℕ)) (image : List ℕ) (i : ℕ) (s : Shape) →
-    shapes ≡ map shape_of gs → map machine_state ms ≡ machines_of gs images → length ms ≡ length images → i ≡ length ms → i < length gs →
-    s ≡ get_or shapes i s → machine_state m ≡ opening s.ram s.rate image → after ≡ ms ++ m ∷ [] → map machine_state after ≡ machines_of gs (images ++ image ∷ [])
-states_more gs shapes ms after m images image i s sh states count here lt is made pushed =
-    let g = some_at gs i lt in
-    let e : i ≡ length images = here ∙ count in
-    let at : slice_get gs (length images) ≡ Some g.0 = subst (λ k. slice_get gs k ≡ Some g.0) e g.1 in
-    let shape : s ≡ shape_of g.0 = next_shape gs shapes i (length images) g.0 s sh e is at in
-    let state : machine_state m ≡ opening g.0.ram g.0.rate image = made ∙ ap (λ (k : Shape). opening k.ram k.rate image) shape in
-    ap (map machine_state) pushed ∙ states_push ms m
-    ∙ ap (λ (zs : List MachineState). zs ++ machine_state m ∷ []) states
-    ∙ ap (λ (z : MachineState). machines_of gs images ++ z ∷ []) state
-    ∙ sym (machines_of_push gs images image g.0 at)
+-- what is answered by the shape of a guest is answered of the guest
+pub refused_is : (i n : ℕ) (s : Shape) (g : GuestSpec) (b : List ℕ) (f : BuildFault) → i ≡ n → s ≡ shape_of g → LoadedAnswers i (image s.format s.ram b) (Err f) → ImageAnswers n g b (Err f)
+refused_is i n s g b (build.Image j fault) e is h = (h.0 ∙ e, ap (λ (k : Shape). image k.format k.ram b) (sym is) ∙ h.1)
+refused_is i n s g b build.NoMemory e is h = tt
 
--- whether or not the machine was added, none has begun a tick
-pub unbegun_push : (shapes : List Shape) (ms after : List Machine) (m : Machine) (i : ℕ) (s : Shape) (image : List ℕ) (added : Bool) →
-    ((g : ℕ) (n : Machine) → slice_get ms g ≡ Some n → IsUnbegun (rate_at shapes g) (machine_state n)) →
-    s ≡ get_or shapes i s → i ≡ length ms → length ms < length shapes → machine_state m ≡ opening s.ram s.rate image → after ≡ cond added (ms ++ m ∷ []) ms →
-    (g : ℕ) (n : Machine) → slice_get after g ≡ Some n → IsUnbegun (rate_at shapes g) (machine_state n)
-unbegun_push shapes ms after m i s image true all is here lt made pushed g n at =
-    unbegun_more shapes ms m s image all (is ∙ ap (λ (k : ℕ). get_or shapes k s) here) lt made g n (sym (ap (λ (xs : List Machine). slice_get xs g) pushed) ∙ at)
-unbegun_push shapes ms after m i s image false all is here lt made pushed g n at = all g n (sym (ap (λ (xs : List Machine). slice_get xs g) pushed) ∙ at)
+pub taken_is : (s : Shape) (g : GuestSpec) (b : List ℕ) (l : Loaded) → s ≡ shape_of g → image s.format s.ram b ≡ Ok l → image g.format g.ram b ≡ Ok l
+taken_is s g b l is h = ap (λ (k : Shape). image k.format k.ram b) (sym is) ∙ h
 
 -- without links there are no wires
 pub wires_none : (links : List LinkSpec) → links ≡ [] → flat_map wires_of links ≡ []

@@ -1,27 +1,34 @@
 -- What an image is answered.
-use Rattle.std.specs.Prelude.{◌≡◌, ℕ, ◌<◌, ◌≤◌, List, length, Result, Ok, Err}
-use Rattle.guest_machine.specs.MachineView.{machine_state}
-use Rattle.guest_machine.specs.Opening.{opening}
-use Rattle.guest_machine.specs.declared.machine.Machine.{Machine}
-use Rattle.bench_build.specs.declared.shape.Shape.{Shape}
+use Rattle.std.specs.Prelude.{◌≡◌, ℕ, List, Result, Ok, Err}
 use Rattle.exp_file.specs.declared.guest_spec.GuestSpec.{GuestSpec}
+use Rattle.bench_build.specs.Images.{image}
+use Rattle.bench_build.specs.declared.loaded.Loaded.{Loaded}
 use Rattle.bench_build.specs.declared.image_fault.ImageFault.{ImageFault}
-use Rattle.bench_build.specs.declared.image_fault.ImageFault.TheVariants.{TooLong}
 use Rattle.bench_build.specs.declared.build_fault.BuildFault.{BuildFault}
 use Rattle.bench_build.specs.declared.build_fault.BuildFault.TheVariants.{Image, NoMemory}
 
--- the first fault of a flat image: it is longer than the guest's RAM
+-- the image of a guest is taken: it gives RAM and an entry
+pub record IsTaken (g : GuestSpec) (b : List ℕ) : Type 0 where
+  pub loaded : Loaded
+  pub is : image g.format g.ram b ≡ Ok loaded
+
+-- the first fault of the image of a guest
 abbrev pub IsFault : GuestSpec → List ℕ → ImageFault → Type 0
-IsFault g image TooLong = g.ram < length image
+IsFault g b fault = image g.format g.ram b ≡ Err fault
 
--- an image is taken where it has no fault, and else it is refused with its guest's number and the fault
+-- an image is taken where it has no fault, and else it is refused with its guest's number and its first fault
 abbrev pub ImageAnswers : ℕ → GuestSpec → List ℕ → Result (Unit {0}) BuildFault → Type 0
-ImageAnswers i g image (Ok _) = length image ≤ g.ram
-ImageAnswers i g image (Err (Image j fault)) = (j ≡ i) × IsFault g image fault
-ImageAnswers i g image (Err NoMemory) = Unit {0}
+ImageAnswers i g b (Ok _) = IsTaken g b
+ImageAnswers i g b (Err (Image j fault)) = (j ≡ i) × IsFault g b fault
+ImageAnswers i g b (Err NoMemory) = Unit {0}
 
--- the same of the machine that is made for it
-abbrev pub MachineAnswers : ℕ → Shape → List ℕ → Result Machine BuildFault → Type 0
-MachineAnswers i s image (Ok m) = (machine_state m ≡ opening s.ram s.rate image) × (length image ≤ s.ram)
-MachineAnswers i s image (Err (Image j TooLong)) = (j ≡ i) × (s.ram < length image)
-MachineAnswers i s image (Err NoMemory) = Unit {0}
+-- the same of the RAM that is made for it
+abbrev pub LoadedAnswers : ℕ → Result Loaded ImageFault → Result Loaded BuildFault → Type 0
+LoadedAnswers i is (Ok l) = is ≡ Ok l
+LoadedAnswers i is (Err (Image j fault)) = (j ≡ i) × (is ≡ Err fault)
+LoadedAnswers i is (Err NoMemory) = Unit {0}
+
+-- and of the RAM that it is put into
+abbrev pub PutAnswers : Result Loaded ImageFault → List ℕ → Result ℕ ImageFault → Type 0
+PutAnswers is ram (Ok entry) = is ≡ Ok (record { ram = ram; entry = entry })
+PutAnswers is ram (Err fault) = is ≡ Err fault

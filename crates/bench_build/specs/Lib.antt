@@ -1,4 +1,6 @@
 pub mod Answers
 pub mod Building
+pub mod Images
+pub mod Openings
 pub mod Setups
 pub mod Shapes

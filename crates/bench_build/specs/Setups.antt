@@ -1,5 +1,5 @@
 -- The setup of an experiment: what its synchronous system is made of. It knows no slot and no factor.
-use Rattle.std.specs.Prelude.{ℕ, List, [], ◌∷◌, map, length, slice_index_or}
+use Rattle.std.specs.Prelude.{ℕ, List, [], ◌∷◌, map, length, slice_index_or, Result, Ok, Err}
 use Rattle.std.specs.List.{flat_map}
 use Rattle.exp_file.specs.declared.experiment.Experiment.{Experiment}
 use Rattle.exp_file.specs.declared.guest_spec.GuestSpec.{GuestSpec}
@@ -11,13 +11,22 @@ use Rattle.guest_machine.specs.Tick.{MachineState, machine_motion}
 use Rattle.guest_machine.specs.Opening.{opening}
 use Rattle.slot_sched.specs.Legal.{Rules}
 use Rattle.slot_sched.specs.Schedule.{Plan, rules}
+use Rattle.bench_build.specs.Images.{image}
+use Rattle.bench_build.specs.declared.image_fault.ImageFault.{ImageFault}
+use Rattle.bench_build.specs.declared.loaded.Loaded.{Loaded}
 use Rattle.bench_build.specs.declared.shape.Shape.{Shape}
+
+-- the opening machine of a guest with this rate and this image. No bench is built with an image that is refused, so
+-- what stands for one is never asked
+abbrev pub opens : ℕ → Result Loaded ImageFault → MachineState
+opens rate (Ok l) = opening rate l.entry l.ram
+opens rate (Err fault) = opening rate 0 []
 
 -- the opening machines of guests, each with its image
 abbrev pub machines_of : List GuestSpec → List (List ℕ) → List MachineState
 machines_of gs [] = []
-machines_of [] (image ∷ images) = []
-machines_of (g ∷ gs) (image ∷ images) = opening g.ram g.rate image ∷ machines_of gs images
+machines_of [] (b ∷ images) = []
+machines_of (g ∷ gs) (b ∷ images) = opens g.rate (image g.format g.ram b) ∷ machines_of gs images
 
 -- a link is two wires, one in each direction
 abbrev pub wires_of : LinkSpec → List Wire
@@ -29,7 +38,7 @@ wires_of l =
 abbrev pub setup : Experiment → List (List ℕ) → Setup MachineState
 setup e images = record {
   count = length e.guests.items;
-  opening = λ g. slice_index_or (machines_of e.guests.items images) g (opening 4096 1 []);
+  opening = λ g. slice_index_or (machines_of e.guests.items images) g (opening 1 0 []);
   wires = flat_map wires_of e.links.items;
 }
 
@@ -46,4 +55,4 @@ run_rules e slots images host_ticks = rules machine_motion (setup e images) (pla
 
 -- what of a guest its machine is made of
 abbrev pub shape_of : GuestSpec → Shape
-shape_of g = record { ram = g.ram; rate = g.rate }
+shape_of g = record { format = g.format; ram = g.ram; rate = g.rate }

@@ -1,7 +1,7 @@
 -- What a builder knows of its shapes and machines.
 use Rattle.std.specs.Prelude.{◌≡◌, ℕ, ◌≤◌, ◌%◌, List, map, slice_index_or}
 use Rattle.lookahead_core.specs.Motion.{Idle}
-use Rattle.guest_machine.specs.Tick.{MachineState}
+use Rattle.guest_machine.specs.Tick.{MachineState, clock_of}
 use Rattle.bench_build.specs.declared.shape.Shape.{Shape}
 
 -- a shape that a machine can have
@@ -18,5 +18,5 @@ rate_at shapes g = slice_index_or (map (λ s. s.rate) shapes) g 0
 
 -- a machine of a guest that has begun no tick
 pub record IsUnbegun (rate : ℕ) (m : MachineState) : Type 0 where
-  pub idle : m.clock ≡ Idle 0
+  pub idle : clock_of m ≡ Idle 0
   pub rate_is : m.rate ≡ rate

@@ -5,18 +5,18 @@ ghost use Rattle.exp_file.specs.WellFormed.{IsWellFormed};
 ghost use Rattle.exp_file.specs.declared.experiment.Experiment.{Experiment};
 ghost use Rattle.exp_file.specs.declared.guest_spec.GuestSpec.{GuestSpec};
 ghost use Rattle.host_plan.specs.Fits.{IsPlacement, Fits};
-ghost use Rattle.guest_machine.specs.MachineView.{machine_state};
 ghost use Rattle.slot_sched.specs.Legal.{start};
 ghost use Rattle.slot_sched.specs.Schedule.{sum_at};
 ghost use Rattle.slot_sched.specs.BenchWords.{BenchStands, IsAtTick, plan_of, ticks_made, bench_failed, members_of};
-ghost use Rattle.guest_machine.specs.declared.machine.Machine.{Machine};
 ghost use Rattle.bench_build.specs.declared.shape.Shape.{Shape};
 ghost use Rattle.bench_build.specs.Answers.{ImageAnswers};
 ghost use Rattle.bench_build.specs.Setups.{setup, plan};
-ghost use Rattle.bench_build.specs.Shapes.{IsShape, IsUnbegun, rate_at};
+ghost use Rattle.bench_build.specs.Shapes.{IsShape, rate_at};
 
 use crate::build_fault::BuildFault;
-use crate::machines::machine_for;
+use crate::images::loaded_for;
+use crate::loaded::Loaded;
+use crate::machines::machines_for;
 use crate::plan::{capacities_of, shapes_of};
 use crate::shape::Shape;
 use exp_file::Experiment;
@@ -35,7 +35,7 @@ pub struct Builder {
     homes: Vec<u32>,
     capacities: Vec<u64>,
     factor: u64,
-    machines: Vec<Machine>,
+    loaded: Vec<Loaded>,
     ghost some: { 1 ≤ length shapes.items },
     ghost few: { length shapes.items ≤ 32 },
     ghost few_slots: { length capacities.items ≤ 32 },
@@ -45,8 +45,7 @@ pub struct Builder {
     ghost small: { (s : ℕ) → slice_index capacities.items s ≤ 1000000 },
     ghost factor_in_range: { (1 ≤ factor) × (factor ≤ 1000) },
     ghost fit: { (s : ℕ) → s < length capacities.items → sum_at (slice_index homes.items) s (rate_at shapes.items) (length shapes.items) ≤ slice_index capacities.items s * factor },
-    ghost begun: { length machines.items ≤ length shapes.items },
-    ghost unbegun: { (g : ℕ) (m : Machine) → slice_get machines.items g ≡ Some m → IsUnbegun (rate_at shapes.items g) (machine_state m) },
+    ghost begun: { length loaded.items ≤ length shapes.items },
 }
 
 impl Builder {
@@ -75,12 +74,12 @@ impl Builder {
             homes,
             capacities,
             factor: e.factor,
-            machines: Vec::new(alloc),
+            loaded: Vec::new(alloc),
         })
     }
 
-    /// Takes the image of the next guest. It is refused where it is longer than the guest's RAM. A
-    /// refusal leaves the builder as it was.
+    /// Takes the image of the next guest. It is refused with the first fault that it has in the
+    /// guest's format and RAM. A refusal leaves the builder as it was.
     pub fn add_image(&mut self, bytes: &[u8]) -> Result<(), BuildFault>
         requires { added self.old < wanted self.old }
         ensures building { OnOk result ((e : Experiment) (slots : List ℕ) (images : List (List ℕ)) →
@@ -92,13 +91,13 @@ impl Builder {
         ensures wanted { wanted self.new ≡ wanted self.old }
         ensures added { OnOk result (added self.new ≡ added self.old + 1) }
     {
-        let index = self.machines.len();
+        let index = self.loaded.len();
         let shape = self.shapes[index];
-        let machine = match machine_for(self.alloc, index as u32, shape, bytes) {
-            Ok(machine) => machine,
+        let loaded = match loaded_for(self.alloc, index as u32, shape, bytes) {
+            Ok(loaded) => loaded,
             Err(fault) => return Err(fault),
         };
-        match self.machines.push(machine) {
+        match self.loaded.push(loaded) {
             Ok(()) => (),
             Err(_) => return Err(BuildFault::NoMemory),
         }
@@ -120,12 +119,16 @@ impl Builder {
     {
         let Builder {
             alloc,
-            shapes: _,
+            shapes,
             homes,
             capacities,
             factor,
-            machines,
+            loaded,
         } = self;
+        let machines = match machines_for(alloc, &shapes, loaded) {
+            Ok(machines) => machines,
+            Err(_) => return Err(BuildFault::NoMemory),
+        };
         let core = match Core::build(alloc, machines, &[]) {
             Ok(core) => core,
             Err(_) => return Err(BuildFault::NoMemory),

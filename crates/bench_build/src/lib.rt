@@ -4,6 +4,8 @@
 mod build_fault;
 mod builder;
 mod image_fault;
+mod images;
+mod loaded;
 mod machines;
 mod plan;
 mod shape;

@@ -14,6 +14,7 @@ pub(crate) fn shapes_of(alloc: Global, guests: &[GuestSpec]) -> Result<Vec<Shape
     let mut shapes = Vec::new(alloc);
     for guest in guests {
         match shapes.push(Shape {
+            format: guest.format,
             ram: guest.ram,
             rate: guest.rate,
         }) {

@@ -5,6 +5,8 @@ use std::test::Fail;
 use tb_io::{MemFiles, MemSink};
 use tb_top::diecast;
 
+mod files;
+
 pub(crate) const JUMP: [u8; 4] = [0x6f, 0, 0, 0];
 
 /// What a command left: its exit status, what it put, and its message.
@@ -80,27 +82,20 @@ end 2\n";
     Ok(())
 }
 
-// A turn has two units. The tick that halts has one busy step, and each later one costs one unit
-// too; a quantum ends with its tick.
 #[test]
-fn a_word_of_zeros_halts(rt: HostRuntime) -> Result<(), Fail> {
-    let wanted = b"diecast 1 factor 1 slots 1 guests 1 host 2\n\
+fn a_word_of_zeros_traps(rt: HostRuntime) -> Result<(), Fail> {
+    let wanted = b"diecast 1 factor 1 slots 1 guests 1 host 1\n\
 host 1\n\
 slot 0\n\
 run 0 units 1 done 1\n\
-0 0 halt\n\
-run 0 units 1 done 2\n\
-host 2\n\
-slot 0\n\
-run 0 units 1 done 3\n\
-run 0 units 1 done 4\n\
-end 2\n";
+0 0 trap 00000002 80000000\n\
+end 1\n";
     let alloc = rt.alloc();
     let left = run(
         alloc,
-        &file(alloc, 1, 2, 2, "")?,
+        &file(alloc, 1, 1, 1, "")?,
         &[0, 0, 0, 0],
-        "2",
+        "1",
         room(alloc)?,
     )?;
     assert_eq!(rt; left.code, 0);

@@ -31,7 +31,10 @@ fn loads_the_file_and_refuses_its_prefixes(rt: HostRuntime) {
         let word = if len == 120 { 0x6f } else { 0 };
         assert!(rt; ram.load(0x8000_0000, Width::Word) == Ok(word), "at {len}");
     }
-    assert!(rt; ram.load(0x8000_0004, Width::Word) == Ok(0));
+    for at in 1..1024 {
+        let word = ram.load(0x8000_0000 + 4 * at, Width::Word);
+        assert!(rt; word == Ok(0), "at word {at}");
+    }
 }
 
 #[test]

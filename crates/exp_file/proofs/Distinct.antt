@@ -11,6 +11,7 @@ use Rattle.exp_file.specs.Tables.{is_named}
 use Rattle.exp_file.specs.Disks.{disks_of}
 use Rattle.exp_file.specs.Links.{is_used, ends_at}
 use Rattle.exp_file.specs.WellFormed.{IsFree}
+use Rattle.exp_file.proofs.Books.{bytes_sym}
 
 or_left : (a b : Bool) → (a || b) ≡ false → a ≡ false
 or_left false b h = refl
@@ -32,8 +33,8 @@ names_more : (gs : List GuestSpec) (g : GuestSpec) → IsDistinct bytes_eq (name
 unfolding IsDistinct
 names_more [] g d new = (tt, tt)
 names_more (x ∷ gs) g d new = (
-  apart_push x.name gs g d.0 (or_left (bytes_eq x.name g.name) (is_named g.name gs) new),
-  names_more gs g d.1 (or_right (bytes_eq x.name g.name) (is_named g.name gs) new),
+  apart_push x.name gs g d.0 (bytes_sym x.name g.name ∙ or_left (bytes_eq g.name x.name) (is_named g.name gs) new),
+  names_more gs g d.1 (or_right (bytes_eq g.name x.name) (is_named g.name gs) new),
 )
 
 pub names_push : (gs next : List GuestSpec) (g : GuestSpec) → IsDistinct bytes_eq (names gs) → is_named g.name gs ≡ false → next ≡ gs ++ g ∷ [] → IsDistinct bytes_eq (names next)

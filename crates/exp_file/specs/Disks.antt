@@ -1,6 +1,6 @@
 -- The disks of an experiment file, and the guests that its names stand for.
-use Rattle.std.specs.Prelude.{◌==◌, ℕ, suc, nat_lt, List, [], ◌∷◌, length, Option, Some, None, Result, Ok, Err, codes, if◌then◌else◌}
-use Rattle.std.specs.List.{count_by}
+use Rattle.std.specs.Prelude.{◌==◌, ℕ, nat_lt, List, length, Option, Some, None, Result, Ok, Err, codes, if◌then◌else◌}
+use Rattle.std.specs.List.{count_by, position}
 use Rattle.std.specs.Str.{bytes_eq}
 use Rattle.toml.specs.Data.{Data}
 use Rattle.exp_file.specs.declared.exp_fault.ExpFault.{ExpFault}
@@ -12,16 +12,15 @@ use Rattle.exp_file.specs.declared.disk_spec.DiskSpec.{DiskSpec}
 use Rattle.exp_file.specs.Rows.{◌>>=◌, Place, fault_at, number, number_or, text, maybe_text, known}
 use Rattle.exp_file.specs.Tables.{row}
 
--- the number of the guest that has a name, where the first of these has the number given
-abbrev pub guest_named : ℕ → List GuestSpec → List ℕ → Option ℕ
-guest_named i [] name = None
-guest_named i (g ∷ gs) name = if bytes_eq g.name name then Some i else guest_named (suc i) gs name
+-- the number of the guest that has a name
+abbrev pub guest_named : List GuestSpec → List ℕ → Option ℕ
+guest_named guests name = position (λ g. bytes_eq name g.name) guests
 
 -- the guest that the text at a key names, if there is one
 unfoldable pub guest_at : Place → List GuestSpec → List ℕ → Result (Option ℕ) ExpFault
 guest_at p guests key = do
   name ← text p key AnyText
-  Ok (guest_named 0 guests name)
+  Ok (guest_named guests name)
 
 unfoldable pub found : Place → List ℕ → Option ℕ → Result ℕ ExpFault
 found p key None = Err (fault_at p key NoSuchGuest)

@@ -1,5 +1,5 @@
 -- What an experiment file says: the experiment, or the first fault.
-use Rattle.std.specs.Prelude.{◌==◌, ℕ, ◌&&◌, List, [], length, Option, Some, None, Result, Ok, Err, Bool, true, false, codes, if◌then◌else◌}
+use Rattle.std.specs.Prelude.{◌==◌, ℕ, ◌&&◌, List, [], length, Option, Some, None, Result, Ok, Err, Bool, codes, if◌then◌else◌}
 use Rattle.std.specs.List.{list_all}
 use Rattle.std.specs.Str.{is_utf8}
 use Rattle.toml.specs.Data.{Members}
@@ -8,21 +8,15 @@ use Rattle.exp_file.specs.declared.exp_fault.ExpFault.{ExpFault}
 use Rattle.exp_file.specs.declared.exp_why.ExpWhy.TheVariants.{NotToml, NoSlot, NoGuest, NotBuilt}
 use Rattle.exp_file.specs.declared.section.Section.TheVariants.{Top}
 use Rattle.exp_file.specs.declared.experiment.Experiment.{Experiment}
-use Rattle.exp_file.specs.declared.guest_spec.Format.{Format}
-use Rattle.exp_file.specs.declared.guest_spec.Format.TheVariants.{Elf, Flat}
 use Rattle.exp_file.specs.Rows.{◌>>=◌, Place, number, known, array, some_array}
 use Rattle.exp_file.specs.Lists.{listed}
 use Rattle.exp_file.specs.Tables.{each, slot_step, guest_step}
 use Rattle.exp_file.specs.Disks.{disk_step}
 use Rattle.exp_file.specs.Links.{link_step}
 
-abbrev pub is_flat : Format → Bool
-is_flat Flat = true
-is_flat Elf = false
-
--- whether all that an experiment asks for can be run: no disk, no link, and of each guest no nic and a flat image
+-- whether all that an experiment asks for can be run: no disk, no link, and no guest with a nic
 abbrev pub is_built : Experiment → Bool
-is_built e = length e.disks.items == 0 && length e.links.items == 0 && list_all (λ g. g.nics == 0 && is_flat g.format) e.guests.items
+is_built e = length e.disks.items == 0 && length e.links.items == 0 && list_all (λ g. g.nics == 0) e.guests.items
 
 unfoldable pub built : Experiment → Result Experiment ExpFault
 built e = if is_built e then Ok e else Err (record { why = NotBuilt; section = Top; index = 0; key = [] })

@@ -49,7 +49,7 @@ guest_of slots p = do
 
 -- whether one of these guests has the name
 abbrev pub is_named : List ℕ → List GuestSpec → Bool
-is_named name guests = list_any (λ g. bytes_eq g.name name) guests
+is_named name guests = list_any (λ g. bytes_eq name g.name) guests
 
 -- a guest whose name no earlier one has
 unfoldable pub once : List GuestSpec → Place → GuestSpec → Result GuestSpec ExpFault

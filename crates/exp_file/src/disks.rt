@@ -1,18 +1,18 @@
 //! The disks, and the guests that names stand for.
 ghost use Rattle.std.specs.Prelude.{◌≡◌, [], ◌≤◌, ◌<◌, length, IfOk, IfSome, All, ℕ, Some};
 ghost use Rattle.toml.specs.View.{view, items_view};
-ghost use Rattle.exp_file.specs.Disks.{guest_named, guest_at, found, disks_of, with_room, disk_of, disk_step};
+ghost use Rattle.exp_file.specs.Disks.{guest_at, found, disks_of, with_room, disk_of, disk_step};
 ghost use Rattle.exp_file.specs.Lists.{ListGives};
 ghost use Rattle.exp_file.specs.Places.{place};
 ghost use Rattle.exp_file.specs.Rows.{Gives};
 ghost use Rattle.exp_file.specs.Tables.{each};
 ghost use Rattle.exp_file.specs.WellFormed.{IsDisk};
 
+use crate::book::GuestBook;
 use crate::disk_spec::DiskSpec;
 use crate::exp_fault::ExpErr;
 use crate::exp_why::ExpWhy;
 use crate::form::Form;
-use crate::guest_spec::GuestSpec;
 use crate::rows::Row;
 use crate::section::Section;
 use crate::slots::row;
@@ -21,34 +21,15 @@ use tb_base::ItemList;
 use tb_base::limits::{BASE, PER_SECTOR, SECTORS, SEEK_DEN, SEEK_NUM};
 use toml::Value;
 
-fn guest_named(guests: &[GuestSpec], name: &str) -> Option<u32>
-    requires { length guests.now ≤ 32 }
-    ensures given { result ≡ guest_named 0 guests.now name.now }
-    ensures bound { IfSome result (λ g. g < length guests.now) }
-{
-    let mut number = 0u32;
-    for guest in guests {
-        if guest.name.as_str() == name {
-            return Some(number);
-        }
-        number += 1;
-    }
-    None
-}
-
 /// The guest that the text at a key names, if there is one.
 #[tactic(auto, unfolding(crate::specs::Disks::guest_at))]
-pub(crate) fn guest_at(
-    guests: &[GuestSpec],
-    row: &Row<'_>,
-    key: &str,
-) -> Result<Option<u32>, ExpErr>
+pub(crate) fn guest_at(guests: &GuestBook, row: &Row<'_>, key: &str) -> Result<Option<u32>, ExpErr>
     requires { length guests.now ≤ 32 }
     ensures given { Gives result (guest_at (place row.now.section row.now.index row.now.table.now) guests.now key.now) }
     ensures bound { IfOk result (λ o. IfSome o (λ g. g < length guests.now)) }
 {
     match row.text(key, Form::AnyText) {
-        Ok(name) => Ok(guest_named(guests, name)),
+        Ok(name) => Ok(guests.guest_named(name)),
         Err(e) => Err(e),
     }
 }
@@ -87,7 +68,7 @@ fn with_room(done: &[DiskSpec], row: &Row<'_>, g: u32) -> Result<u32, ExpErr>
 #[tactic(auto, unfolding(crate::specs::Disks::disk_of))]
 fn disk_of(
     alloc: Global,
-    guests: &[GuestSpec],
+    guests: &GuestBook,
     done: &[DiskSpec],
     row: &Row<'_>,
 ) -> Result<DiskSpec, ExpErr>
@@ -120,7 +101,7 @@ fn disk_of(
 #[tactic(auto, unfolding(crate::specs::Disks::disk_step))]
 fn disk_step(
     alloc: Global,
-    guests: &[GuestSpec],
+    guests: &GuestBook,
     done: &[DiskSpec],
     value: &Value,
 ) -> Result<DiskSpec, ExpErr>
@@ -137,7 +118,7 @@ fn disk_step(
 /// The disks that an array's items say, in order.
 pub(crate) fn read_disks(
     alloc: Global,
-    guests: &[GuestSpec],
+    guests: &GuestBook,
     values: &[Value],
 ) -> Result<ItemList<DiskSpec>, ExpErr>
     requires guests { length guests.now ≤ 32 }

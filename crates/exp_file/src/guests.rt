@@ -5,10 +5,10 @@ ghost use Rattle.std.specs.List.{IsDistinct};
 ghost use Rattle.std.specs.Str.{bytes_eq};
 ghost use Rattle.toml.specs.View.{view, items_view};
 ghost use Rattle.exp_file.specs.Rows.{Gives};
-ghost use Rattle.exp_file.specs.Lists.{ListGives};
 ghost use Rattle.exp_file.specs.Places.{place};
 ghost use Rattle.exp_file.specs.Tables.{guest_of, is_named, once, guest_step, each};
 
+use crate::book::GuestBook;
 use crate::exp_fault::ExpErr;
 use crate::exp_why::ExpWhy;
 use crate::form::Form;
@@ -17,7 +17,6 @@ use crate::rows::Row;
 use crate::section::Section;
 use crate::slots::row;
 use std::alloc::Global;
-use tb_base::ItemList;
 use toml::Value;
 
 #[tactic(auto, unfolding(crate::specs::Tables::guest_of))]
@@ -46,19 +45,13 @@ fn read_guest(alloc: Global, slots: u32, row: &Row<'_>) -> Result<GuestSpec, Exp
     })
 }
 
-fn is_named(name: &str, done: &[GuestSpec]) -> bool
-    ensures { result ≡ is_named name.now done.now }
-{
-    done.iter().any(|g| g.name.as_str() == name)
-}
-
 #[tactic(auto, unfolding(crate::specs::Tables::once))]
-fn once(done: &[GuestSpec], row: &Row<'_>, guest: GuestSpec) -> Result<GuestSpec, ExpErr>
+fn once(done: &GuestBook, row: &Row<'_>, guest: GuestSpec) -> Result<GuestSpec, ExpErr>
     ensures given { Gives result (once done.now (place row.now.section row.now.index row.now.table.now) guest) }
     ensures same { IfOk result (λ g. g ≡ guest) }
     ensures new { IfOk result (λ g. is_named g.name done.now ≡ false) }
 {
-    if is_named(guest.name.as_str(), done) {
+    if done.is_named(guest.name.as_str()) {
         Err(row.fault("name", ExpWhy::Twice))
     } else {
         Ok(guest)
@@ -69,7 +62,7 @@ fn once(done: &[GuestSpec], row: &Row<'_>, guest: GuestSpec) -> Result<GuestSpec
 fn guest_step(
     alloc: Global,
     slots: u32,
-    done: &[GuestSpec],
+    done: &GuestBook,
     value: &Value,
 ) -> Result<GuestSpec, ExpErr>
     requires room { length done.now < 32 }
@@ -78,30 +71,26 @@ fn guest_step(
     ensures well { IfOk result (IsGuest slots) }
     ensures new { IfOk result (λ g. is_named g.name done.now ≡ false) }
 {
-    let row = row(Section::Guest, done.len() as u32, value)?;
+    let row = row(Section::Guest, done.as_slice().len() as u32, value)?;
     let guest = read_guest(alloc, slots, &row)?;
     once(done, &row, guest)
 }
 
-pub(crate) fn read_guests(
-    alloc: Global,
-    slots: u32,
-    values: &[Value],
-) -> Result<ItemList<GuestSpec>, ExpErr>
+pub(crate) fn read_guests(alloc: Global, slots: u32, values: &[Value]) -> Result<GuestBook, ExpErr>
     requires room { length values.now ≤ 32 }
     requires slots { 0 < slots }
-    ensures given { ListGives result (each (guest_step slots) [] (items_view values.now)) }
-    ensures bound { IfOk result (λ s. length s.items ≡ length values.now) }
-    ensures well { IfOk result (λ s. All (IsGuest slots) s.items) }
-    ensures names { IfOk result (λ s. IsDistinct bytes_eq (map (λ g. g.name) s.items)) }
+    ensures given { Gives result (each (guest_step slots) [] (items_view values.now)) }
+    ensures bound { IfOk result (λ s. length s ≡ length values.now) }
+    ensures well { IfOk result (λ s. All (IsGuest slots) s) }
+    ensures names { IfOk result (λ s. IsDistinct bytes_eq (map (λ g. g.name) s)) }
 {
-    let mut guests = ItemList::new(alloc);
+    let mut guests = GuestBook::new(alloc);
     for value in values {
-        let guest = match guest_step(alloc, slots, guests.as_slice(), value) {
+        let guest = match guest_step(alloc, slots, &guests, value) {
             Ok(guest) => guest,
             Err(e) => return Err(e),
         };
-        match guests.push(guest) {
+        match guests.push(alloc, guest) {
             Ok(()) => (),
             Err(_) => return Err(ExpErr::NoMemory),
         }

@@ -1,6 +1,7 @@
 //! Experiments, read from their files: what a file says, and the first fault of one that is refused.
 #![tactic(auto)]
 
+mod book;
 mod disk_spec;
 mod disks;
 mod exp_fault;

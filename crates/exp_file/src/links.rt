@@ -8,6 +8,7 @@ ghost use Rattle.exp_file.specs.Rows.{Gives};
 ghost use Rattle.exp_file.specs.Tables.{each};
 ghost use Rattle.exp_file.specs.WellFormed.{IsLink, IsFree, AreFields};
 
+use crate::book::GuestBook;
 use crate::disks::{found, guest_at};
 use crate::exp_fault::ExpErr;
 use crate::exp_why::ExpWhy;
@@ -108,7 +109,7 @@ pub struct LinkFields {
 }
 
 #[tactic(auto, unfolding(crate::specs::Links::link_fields))]
-fn link_fields(guests: &[GuestSpec], row: &Row<'_>) -> Result<LinkFields, ExpErr>
+fn link_fields(guests: &GuestBook, row: &Row<'_>) -> Result<LinkFields, ExpErr>
     requires { length guests.now ≤ 32 }
     ensures given { Gives result (link_fields guests.now (place row.now.section row.now.index row.now.table.now)) }
     ensures well { IfOk result (AreFields (length guests.now)) }
@@ -134,7 +135,7 @@ fn link_fields(guests: &[GuestSpec], row: &Row<'_>) -> Result<LinkFields, ExpErr
 
 #[tactic(auto, unfolding(crate::specs::Links::link_ends))]
 fn link_ends(
-    guests: &[GuestSpec],
+    guests: &GuestBook,
     done: &[LinkSpec],
     row: &Row<'_>,
     f: &LinkFields,
@@ -145,13 +146,13 @@ fn link_ends(
     ensures free { IfOk result (IsFree done.now) }
 {
     let first = Around {
-        guests,
+        guests: guests.as_slice(),
         done,
         other: None,
     };
     let a = end_of(row, &first, "a", "a_nic", f.a, f.a_nic)?;
     let second = Around {
-        guests,
+        guests: guests.as_slice(),
         done,
         other: Some((a, f.a_nic)),
     };
@@ -168,7 +169,7 @@ fn link_ends(
 }
 
 #[tactic(auto, unfolding(crate::specs::Links::link_step))]
-fn link_step(guests: &[GuestSpec], done: &[LinkSpec], value: &Value) -> Result<LinkSpec, ExpErr>
+fn link_step(guests: &GuestBook, done: &[LinkSpec], value: &Value) -> Result<LinkSpec, ExpErr>
     requires guests { length guests.now ≤ 32 }
     requires room { length done.now < 64 }
     ensures given { Gives result (link_step guests.now done.now (view value.now)) }
@@ -183,7 +184,7 @@ fn link_step(guests: &[GuestSpec], done: &[LinkSpec], value: &Value) -> Result<L
 /// The links that an array's items say, in order.
 pub(crate) fn read_links(
     alloc: Global,
-    guests: &[GuestSpec],
+    guests: &GuestBook,
     values: &[Value],
 ) -> Result<ItemList<LinkSpec>, ExpErr>
     requires guests { length guests.now ≤ 32 }

@@ -1,10 +1,10 @@
 //! A whole file.
-ghost use Rattle.std.specs.Prelude.{◌≡◌, ◌&&◌, ◌<◌, ◌≤◌, IfOk, length, true, ◌==◌, []};
+ghost use Rattle.std.specs.Prelude.{◌≡◌, ◌<◌, ◌≤◌, IfOk, length, true, ◌==◌, []};
 ghost use Rattle.std.specs.List.{list_all};
 ghost use Rattle.toml.specs.View.{table_view};
 ghost use Rattle.exp_file.specs.Lists.{Reads};
 ghost use Rattle.exp_file.specs.Places.{place};
-ghost use Rattle.exp_file.specs.Reading.{top_of, built, is_built, is_flat, said, reading};
+ghost use Rattle.exp_file.specs.Reading.{top_of, built, is_built, said, reading};
 ghost use Rattle.exp_file.specs.declared.section.Section.TheVariants.{Top};
 ghost use Rattle.exp_file.specs.WellFormed.{IsWellFormed};
 
@@ -12,7 +12,7 @@ use crate::disks::read_disks;
 use crate::exp_fault::{ExpErr, ExpFault};
 use crate::exp_why::ExpWhy;
 use crate::experiment::Experiment;
-use crate::guest_spec::{Format, GuestSpec};
+use crate::guest_spec::GuestSpec;
 use crate::guests::read_guests;
 use crate::links::read_links;
 use crate::rows::Row;
@@ -33,25 +33,10 @@ fn top_fault(why: ExpWhy) -> ExpErr
     })
 }
 
-fn is_flat(format: Format) -> bool
-    ensures { result ≡ is_flat format }
-{
-    match format {
-        Format::Flat => true,
-        Format::Elf => false,
-    }
-}
-
-fn is_built_guest(g: &GuestSpec) -> bool
-    ensures { result ≡ (g.now.nics == 0 && is_flat g.now.format) }
-{
-    g.nics == 0 && is_flat(g.format)
-}
-
 fn are_built_guests(guests: &[GuestSpec]) -> bool
-    ensures { result ≡ list_all (λ g. g.nics == 0 && is_flat g.format) guests.now }
+    ensures { result ≡ list_all (λ g. g.nics == 0) guests.now }
 {
-    guests.iter().all(|g| is_built_guest(g))
+    guests.iter().all(|g| g.nics == 0)
 }
 
 fn is_built(e: &Experiment) -> bool
@@ -74,13 +59,13 @@ fn read_top(alloc: Global, row: &Row<'_>) -> Result<Experiment, ExpErr>
     let link_values = row.array("link", LINKS)?;
     let slots = read_slots(alloc, slot_values)?;
     let guests = read_guests(alloc, slots.len() as u32, guest_values)?;
-    let disks = read_disks(alloc, guests.as_slice(), disk_values)?;
-    let links = read_links(alloc, guests.as_slice(), link_values)?;
+    let disks = read_disks(alloc, &guests, disk_values)?;
+    let links = read_links(alloc, &guests, link_values)?;
     Ok(Experiment {
         version: version as u32,
         factor,
         slots,
-        guests,
+        guests: guests.into_list(),
         disks,
         links,
     })

@@ -8,16 +8,16 @@ use Rattle.exp_file.specs.declared.guest_spec.GuestSpec.{GuestSpec}
 use Rattle.host_plan.specs.declared.overload.Overload.{Overload}
 use Rattle.host_plan.specs.Fits.{Fits, IsFirstOverload, need, have}
 use Rattle.host_plan.specs.Placing.{placed}
-use Rattle.bench_build.specs.Answers.{IsFault}
+use Rattle.bench_build.specs.Answers.{IsTaken, IsFault}
 use Rattle.bench_build.specs.declared.build_fault.BuildFault.TheVariants as build
-use Rattle.bench_build.specs.declared.image_fault.ImageFault.TheVariants as image
+use Rattle.bench_build.specs.declared.image_fault.ImageFault.{ImageFault}
 use Rattle.tb_top.specs.declared.status.FileId.TheVariants as file
 use Rattle.tb_top.specs.declared.status.Status.{Status}
 use Rattle.tb_top.specs.declared.status.Status.TheVariants.{Done, Overload as Over, Usage, Experiment as Refused, Build, TooLong, ReadFault, WriteFault, Memory}
 use Rattle.tb_top.specs.Ends.{World, world, Ends, MayRun, WellFormed, AtImage, IsTooLong, PutsOver}
 use Rattle.tb_top.specs.Loads.{IsRefused}
 use Rattle.tb_top.specs.declared.words.Task.TheVariants.{Run}
-use Rattle.tb_top.proofs.Asked.{of_told, usage_not, file_short, refused_not, says_same}
+use Rattle.tb_top.proofs.Asked.{of_told, ok_not_err, usage_not, file_short, refused_not, says_same}
 use Rattle.tb_top.proofs.Room.{fits_room}
 
 no_overload : (e : Experiment) (p : List ℕ) (o : Overload) → Fits e p → IsFirstOverload e p o → ⊥
@@ -31,7 +31,7 @@ overload_not w e o may (name, (t, command, (b, read, (f, says, (over, puts))))) 
 
 -- a guest at whose image the command stopped is a guest of the run, whose image is told and short
 at_image : (w : World) (e : Experiment) (i : ℕ) (P : GuestSpec → Type 0) → MayRun w.words w.held e → AtImage w i P
-    → (g : GuestSpec) × P g × (b : List ℕ) × (w.held g.image ≡ Some b) × (length b ≤ IMAGE_FILE) × (length b ≤ g.ram)
+    → (g : GuestSpec) × P g × (b : List ℕ) × (w.held g.image ≡ Some b) × (length b ≤ IMAGE_FILE) × IsTaken g b
 at_image w e i P may (name, (t, command, (b, read, (f, says, (fits, (run, stops)))))) =
     let same : f.guests.items ≡ e.guests.items = ap (λ (x : Experiment). x.guests.items) (says_same w (Run may.host_ticks) t e f may.asks name b command read says) in
     let at : slice_get e.guests.items i ≡ Some stops.guest = subst (λ (gs : List GuestSpec). slice_get gs i ≡ Some stops.guest) same stops.at in
@@ -49,16 +49,15 @@ image_short w e i may at =
     let got = at_image w e i (λ g. IsTooLong w IMAGE_FILE g.image) may at in
     long_not w got.0 got.1 got.2 got.3 got.4
 
-fault_not : (w : World) (g : GuestSpec) → IsRefused w.held (λ k b. IsFault k b image.TooLong) g → (b : List ℕ) → w.held g.image ≡ Some b → length b ≤ g.ram → ⊥
-fault_not w g (c, read, over) b told room =
+fault_not : (w : World) (g : GuestSpec) (fault : ImageFault) → IsRefused w.held (λ k b. IsFault k b fault) g → (b : List ℕ) → w.held g.image ≡ Some b → IsTaken g b → ⊥
+fault_not w g fault (c, read, over) b told taken =
     let same : c ≡ b = of_told (λ t. c ≡ t) (w.held g.image) b told read.held in
-    let n : length c ≡ length b = ap length same in
-    omega (arith, n, over, room)
+    ok_not_err taken.is (subst (λ (z : List ℕ). IsFault g z fault) same over)
 
-image_fits : (w : World) (e : Experiment) (i : ℕ) → MayRun w.words w.held e → AtImage w i (IsRefused w.held (λ g b. IsFault g b image.TooLong)) → ⊥
-image_fits w e i may at =
-    let got = at_image w e i (IsRefused w.held (λ g b. IsFault g b image.TooLong)) may at in
-    fault_not w got.0 got.1 got.2 got.3 got.5
+image_taken : (w : World) (e : Experiment) (i : ℕ) (fault : ImageFault) → MayRun w.words w.held e → AtImage w i (IsRefused w.held (λ g b. IsFault g b fault)) → ⊥
+image_taken w e i fault may at =
+    let got = at_image w e i (IsRefused w.held (λ g b. IsFault g b fault)) may at in
+    fault_not w got.0 fault got.1 got.2 got.3 got.5
 
 pub ends_well : (w : World) (s : Status) (e : Experiment) → Ends w s → MayRun w.words w.held e
     → ¬ Rose w.file_faults.0 w.file_faults.1 → ¬ Rose w.out_faults.0 w.out_faults.1 → (s ≡ Done) ⊎ (s ≡ Memory)
@@ -74,7 +73,7 @@ ends_well w (TooLong (file.Disk i)) e ends may files out = absurd ends
 ends_well w (ReadFault file.Experiment) e (quiet, (name, (t, command, (rose, is)))) may files out = absurd (files rose)
 ends_well w (ReadFault (file.Image i)) e (quiet, (name, (t, command, (b, read, (f, says, (fits, (run, stops))))))) may files out = absurd (files stops.why.0)
 ends_well w (ReadFault (file.Disk i)) e ends may files out = absurd ends
-ends_well w (Build (build.Image i image.TooLong)) e (quiet, at) may files out = absurd (image_fits w e i may at)
+ends_well w (Build (build.Image i fault)) e (quiet, at) may files out = absurd (image_taken w e i fault may at)
 ends_well w (Build build.NoMemory) e ends may files out = absurd ends
 
 pub completes : (words : List (List ℕ)) (held : List ℕ → Option (List ℕ)) (f0 f1 : ℕ) (fault_name : List ℕ) (t0 t1 : Option (List ℕ)) (o0 o1 : ℕ) (s : Status) (e : Experiment)

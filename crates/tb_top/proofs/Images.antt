@@ -6,7 +6,7 @@ use Rattle.std.proofs.lemmas.Option.{slice_get_read}
 use Rattle.tb_base.specs.declared.limits.TheConstants.{IMAGE_FILE}
 use Rattle.exp_file.specs.declared.experiment.Experiment.{Experiment}
 use Rattle.exp_file.specs.declared.guest_spec.GuestSpec.{GuestSpec}
-use Rattle.bench_build.specs.Answers.{IsFault}
+use Rattle.bench_build.specs.Answers.{IsTaken, IsFault}
 use Rattle.bench_build.specs.Building.{IsBuilding, added, wanted}
 use Rattle.bench_build.specs.declared.builder.Builder.{Builder}
 use Rattle.bench_build.specs.declared.build_fault.BuildFault.TheVariants as build
@@ -20,7 +20,7 @@ use Rattle.tb_top.specs.Reads.{IsRead, AreLoaded, Stops}
 use Rattle.tb_top.proofs.Putting.{rose_since}
 
 AreLoaded-push : (held : List ℕ → Option (List ℕ)) (gs : List GuestSpec) (bs : List (List ℕ)) (g : GuestSpec) (b : List ℕ)
-    → AreLoaded held gs bs → IsRead (held g.image) IMAGE_FILE b → length b ≤ g.ram → AreLoaded held (gs ++ g ∷ []) (bs ++ b ∷ [])
+    → AreLoaded held gs bs → IsRead (held g.image) IMAGE_FILE b → IsTaken g b → AreLoaded held (gs ++ g ∷ []) (bs ++ b ∷ [])
 AreLoaded-push held [] [] g b h r f = (r, f, tt)
 AreLoaded-push held [] (c ∷ bs) g b h r f = absurd h
 AreLoaded-push held (k ∷ gs) [] g b h r f = absurd h

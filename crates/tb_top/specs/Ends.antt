@@ -9,7 +9,7 @@ use Rattle.host_plan.specs.Fits.{Fits, IsFirstOverload}
 use Rattle.host_plan.specs.Placing.{placed}
 use Rattle.plan_text.specs.Puts.{PutsPlan, PutsPlanPart}
 use Rattle.host_plan.specs.declared.overload.Overload.{Overload as Over}
-use Rattle.bench_build.specs.Answers.{IsFault}
+use Rattle.bench_build.specs.Answers.{IsTaken, IsFault}
 use Rattle.bench_build.specs.declared.build_fault.BuildFault.TheVariants as build
 use Rattle.tb_top.specs.declared.fetch.Missed.{Missed}
 use Rattle.tb_top.specs.declared.fetch.Missed.TheVariants as missed
@@ -137,7 +137,7 @@ fit_status (Err o) = Overload o.slot o.need o.have
 -- the images of the guests are told and within their limit, and each is taken
 abbrev pub AreTold : (List ℕ → Option (List ℕ)) → List GuestSpec → Type 0
 AreTold held guests =
-    (i : ℕ) (g : GuestSpec) → slice_get guests i ≡ Some g → (b : List ℕ) × (held g.image ≡ Some b) × (length b ≤ IMAGE_FILE) × (length b ≤ g.ram)
+    (i : ℕ) (g : GuestSpec) → slice_get guests i ≡ Some g → (b : List ℕ) × (held g.image ≡ Some b) × (length b ≤ IMAGE_FILE) × IsTaken g b
 
 -- the words ask for this task, and its file is told, within its limit, and says this experiment
 pub record Asks (words : List (List ℕ)) (held : List ℕ → Option (List ℕ)) (task : Task) (e : Experiment) : Type 0 where

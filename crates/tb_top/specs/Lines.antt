@@ -8,6 +8,8 @@ use Rattle.exp_file.specs.declared.exp_why.ExpWhy.{ExpWhy}
 use Rattle.exp_file.specs.declared.exp_why.ExpWhy.TheVariants.{NotToml, Missing, Unknown, WrongKind, Range, Twice, NoSuchGuest, NicTaken, NicRange, NoGuest, NoSlot, NotBuilt}
 use Rattle.exp_file.specs.declared.section.Section.{Section}
 use Rattle.exp_file.specs.declared.section.Section.TheVariants.{Top, Slot, Guest, Disk, Link}
+use Rattle.elf_image.specs.declared.fault.ElfFault.{ElfFault}
+use Rattle.elf_image.specs.declared.fault.ElfFault.TheVariants as elf
 use Rattle.bench_build.specs.declared.image_fault.ImageFault.{ImageFault}
 use Rattle.bench_build.specs.declared.image_fault.ImageFault.TheVariants as image
 use Rattle.bench_build.specs.declared.build_fault.BuildFault.{BuildFault}
@@ -56,11 +58,26 @@ shown_key (b ∷ bs) = map shown_byte (b ∷ bs)
 unfoldable pub fault_words : ExpFault → List ℕ
 fault_words f = why_word f.why ++ (section_word f.section ++ (decimal f.index ++ (codes " " ++ shown_key f.key)))
 
-abbrev pub image_word : ImageFault → List ℕ
-image_word image.TooLong = codes ": too-long"
+abbrev pub elf_word : ElfFault → List ℕ
+elf_word elf.NotElf = codes ": not-elf"
+elf_word elf.Truncated = codes ": truncated"
+elf_word elf.WrongKind = codes ": wrong-kind"
+elf_word (elf.BadSegment n) = codes ": bad-segment"
+elf_word (elf.OutsideRam n) = codes ": outside-ram"
+elf_word elf.BadEntry = codes ": bad-entry"
+
+-- the number of the program header of the segment that is at fault
+abbrev pub header_words : ElfFault → List ℕ
+header_words (elf.BadSegment n) = codes " " ++ decimal n
+header_words (elf.OutsideRam n) = codes " " ++ decimal n
+header_words _ = []
+
+abbrev pub image_words : ImageFault → List ℕ
+image_words image.TooLong = codes ": too-long"
+image_words (image.Elf fault) = elf_word fault ++ header_words fault
 
 unfoldable pub build_words : BuildFault → List ℕ
-build_words (build.Image guest fault) = codes "image " ++ decimal guest ++ image_word fault
+build_words (build.Image guest fault) = codes "image " ++ decimal guest ++ image_words fault
 build_words build.NoMemory = codes "out of memory"
 
 abbrev pub file_words : FileId → List ℕ

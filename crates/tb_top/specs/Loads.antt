@@ -1,8 +1,8 @@
 -- What the loading of images answers.
-use Rattle.std.specs.Prelude.{◌≡◌, ℕ, List, length, ◌≤◌, Option, Result, Ok, Err}
+use Rattle.std.specs.Prelude.{◌≡◌, ℕ, List, Option, Result, Ok, Err}
 use Rattle.exp_file.specs.declared.guest_spec.GuestSpec.{GuestSpec}
 use Rattle.tb_base.specs.declared.limits.TheConstants.{IMAGE_FILE}
-use Rattle.bench_build.specs.Answers.{IsFault}
+use Rattle.bench_build.specs.Answers.{IsTaken, IsFault}
 use Rattle.bench_build.specs.declared.build_fault.BuildFault.TheVariants as build
 use Rattle.tb_top.specs.declared.load.LoadErr.{LoadErr}
 use Rattle.tb_top.specs.declared.load.LoadErr.TheVariants as load
@@ -15,7 +15,7 @@ IsRefused held Fault g = (b : List ℕ) × IsRead (held g.image) IMAGE_FILE b ×
 
 -- the image of one guest, of this number, in a run of these slots: it is taken by the builder, or it is told why not
 abbrev pub ImageLoads : (List ℕ → Option (List ℕ)) → ℕ → GuestSpec → ℕ → ℕ → List ℕ → (List ℕ → Type 0) → Result (Unit {0}) LoadErr → Type 0
-ImageLoads held i g before now name Taken (Ok _) = (b : List ℕ) × IsRead (held g.image) IMAGE_FILE b × (length b ≤ g.ram) × Taken b
+ImageLoads held i g before now name Taken (Ok _) = (b : List ℕ) × IsRead (held g.image) IMAGE_FILE b × IsTaken g b × Taken b
 ImageLoads held i g before now name Taken (Err (load.Missed j m)) = (j ≡ i) × Misses (held g.image) IMAGE_FILE g.image before now name m
 ImageLoads held i g before now name Taken (Err (load.Build (build.Image j fault))) = (j ≡ i) × IsRefused held (λ k b. IsFault k b fault) g
 ImageLoads held i g before now name Taken (Err (load.Build build.NoMemory)) = Unit {0}

@@ -3,11 +3,12 @@ ghost use Rattle.std.specs.Prelude.{◌≡◌, ◌++◌, ◌⊎◌, ℕ, map, ta
 ghost use Rattle.std.specs.Fmt.{decimal};
 ghost use Rattle.tb_io.specs.Causes.{Rose};
 ghost use Rattle.tb_io.specs.Puts.{Takes};
-ghost use Rattle.tb_top.specs.Lines.{status_line, is_done, why_word, section_word, usage_word, file_words, fault_words, build_words, image_word, shown_key, shown_byte, Told};
+ghost use Rattle.tb_top.specs.Lines.{status_line, is_done, why_word, section_word, usage_word, file_words, fault_words, build_words, image_words, elf_word, header_words, shown_key, shown_byte, Told};
 
 use crate::status::{FileId, Status};
 use crate::words::WordFault;
 use bench_build::{BuildFault, ImageFault};
+use elf_image::ElfFault;
 use exp_file::{ExpFault, ExpWhy, Section};
 use std::alloc::Global;
 use tb_base::{Bytes, NoMemory};
@@ -144,9 +145,34 @@ fn add_build(line: &mut Bytes, fault: &BuildFault) -> Result<(), NoMemory>
     match fault {
         BuildFault::Image { guest, fault } => {
             add(line, b"image ", u64::from(*guest))?;
-            line.push_slice(image_word(*fault).as_bytes())?;
+            add_image(line, *fault)?;
         }
         BuildFault::NoMemory => line.push_slice(b"out of memory")?,
+    }
+    Ok(())
+}
+
+/// Adds why an image is refused.
+fn add_image(line: &mut Bytes, fault: ImageFault) -> Result<(), NoMemory>
+    ensures { OnOk result (line.new ≡ line.old ++ image_words fault) }
+{
+    match fault {
+        ImageFault::TooLong => line.push_slice(b": too-long")?,
+        ImageFault::Elf(fault) => {
+            line.push_slice(elf_word(fault).as_bytes())?;
+            add_header(line, fault)?;
+        }
+    }
+    Ok(())
+}
+
+/// Adds the number of the program header whose segment is at fault.
+fn add_header(line: &mut Bytes, fault: ElfFault) -> Result<(), NoMemory>
+    ensures { OnOk result (line.new ≡ line.old ++ header_words fault) }
+{
+    match fault {
+        ElfFault::BadSegment(n) | ElfFault::OutsideRam(n) => add(line, b" ", u64::from(n))?,
+        _ => (),
     }
     Ok(())
 }
@@ -173,11 +199,16 @@ fn usage_word(fault: WordFault) -> &'static str
     }
 }
 
-fn image_word(fault: ImageFault) -> &'static str
-    ensures { result.now ≡ image_word fault }
+fn elf_word(fault: ElfFault) -> &'static str
+    ensures { result.now ≡ elf_word fault }
 {
     match fault {
-        ImageFault::TooLong => ": too-long",
+        ElfFault::NotElf => ": not-elf",
+        ElfFault::Truncated => ": truncated",
+        ElfFault::WrongKind => ": wrong-kind",
+        ElfFault::BadSegment(_) => ": bad-segment",
+        ElfFault::OutsideRam(_) => ": outside-ram",
+        ElfFault::BadEntry => ": bad-entry",
     }
 }
 

@@ -8,7 +8,7 @@ use Rattle.exp_file.proofs.guests.read_guests.Given as goal
 
 abbrev pub invariant-loop-value : goal.invariant-loop-value
 invariant-loop-value l = record {
-  well : All (IsGuest l.slots) l.guests.items;
-  names : IsDistinct bytes_eq (map (λ g. g.name) l.guests.items);
-  along : IsAlong (guest_step l.slots) l.guests.items l.values l.value-index;
+  well : All (IsGuest l.slots) l.guests;
+  names : IsDistinct bytes_eq (map (λ g. g.name) l.guests);
+  along : IsAlong (guest_step l.slots) l.guests l.values l.value-index;
 }

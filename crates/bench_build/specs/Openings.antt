@@ -1,0 +1,11 @@
+-- The machines of guests whose images stand in RAM.
+use Rattle.std.specs.Prelude.{List, [], ◌∷◌}
+use Rattle.guest_machine.specs.Opening.{opening}
+use Rattle.guest_machine.specs.Tick.{MachineState}
+use Rattle.bench_build.specs.declared.loaded.Loaded.{Loaded}
+use Rattle.bench_build.specs.declared.shape.Shape.{Shape}
+
+abbrev pub openings : List Shape → List Loaded → List MachineState
+openings ss [] = []
+openings [] (l ∷ ls) = []
+openings (s ∷ ss) (l ∷ ls) = opening s.rate l.entry l.ram ∷ openings ss ls
