@@ -1,0 +1,69 @@
+-- What each call of a device does, by kind. RAM is a list of bytes, and a frame one too.
+use Rattle.std.specs.Prelude.{ℕ, ◌+◌, nat_le, if◌then◌else◌, false, Option, Some, None, List, []}
+use Rattle.tb_base.specs.declared.width.Width.{Width}
+use Rattle.tb_base.specs.declared.width.Width.TheVariants.{Byte, Half, Word}
+use Rattle.csr_file.specs.declared.lines.Lines.{Lines}
+use Rattle.trace_rec.specs.declared.rec.Rec.{Rec}
+use Rattle.dev_face.specs.declared.store_done.StoreDone.{StoreDone}
+use Rattle.dev_face.specs.declared.store_done.StoreDone.TheVariants as done
+use Rattle.dev_face.specs.States.{DevState, Blank, ClintAt, UartAt}
+use Rattle.dev_face.specs.ClintCalls.{clint_load, clint_after, clint_lines}
+use Rattle.dev_face.specs.UartCalls.{uart_load, uart_store}
+
+-- what a load at an offset answers in a tick, where None is an access fault
+abbrev pub dev_load : DevState → ℕ → ℕ → Width → Option ℕ
+dev_load (Blank k) now off width = None
+dev_load (ClintAt s) now off width = clint_load s now off width
+dev_load (UartAt s) now off width = Some (uart_load off width)
+
+-- what a store did, and the device after it
+pub record Stored : Type 0 where
+  pub done : StoreDone
+  pub device : DevState
+
+abbrev pub dev_store : DevState → ℕ → ℕ → Width → ℕ → Stored
+dev_store (Blank k) now off width value = record { done = done.Fault; device = Blank k }
+dev_store (ClintAt s) now off Byte value = record { done = done.Fault; device = ClintAt s }
+dev_store (ClintAt s) now off Half value = record { done = done.Fault; device = ClintAt s }
+dev_store (ClintAt s) now off Word value = record { done = done.Done; device = ClintAt (clint_after s off value) }
+dev_store (UartAt s) now off width value = record { done = uart_store off width value; device = UartAt s }
+
+abbrev pub no_lines : Lines
+no_lines = record { software = false; timer = false; external = false }
+
+-- the lines that the device has up in a tick
+abbrev pub dev_lines : DevState → ℕ → Lines
+dev_lines (Blank k) now = no_lines
+dev_lines (ClintAt s) now = clint_lines s now
+dev_lines (UartAt s) now = no_lines
+
+-- the device and RAM after it began a tick, and what it records
+pub record Begun : Type 0 where
+  pub device : DevState
+  pub ram : List ℕ
+  pub recs : List Rec
+
+-- with RAM, and with the frames that arrive
+abbrev pub dev_begin : DevState → ℕ → List ℕ → List (List ℕ) → Begun
+dev_begin (Blank k) now ram frames = record { device = Blank k; ram = ram; recs = [] }
+dev_begin (ClintAt s) now ram frames = record { device = ClintAt (record s { coming = now + 1 }); ram = ram; recs = [] }
+dev_begin (UartAt s) now ram frames = record { device = UartAt (record { coming = now + 1 }); ram = ram; recs = [] }
+
+-- the device and RAM after it ended a tick, the frames that leave it, and what it records
+pub record Ended : Type 0 where
+  pub device : DevState
+  pub ram : List ℕ
+  pub frames : List (List ℕ)
+  pub recs : List Rec
+
+abbrev pub dev_end : DevState → ℕ → List ℕ → Ended
+dev_end (Blank k) now ram = record { device = Blank k; ram = ram; frames = []; recs = [] }
+dev_end (ClintAt s) now ram = record { device = ClintAt s; ram = ram; frames = []; recs = [] }
+dev_end (UartAt s) now ram = record { device = UartAt s; ram = ram; frames = []; recs = [] }
+
+-- the least tick to come in which begin does something without an arriving frame: a Clint's timer goes up in
+-- mtimecmp
+abbrev pub dev_next : DevState → Option ℕ
+dev_next (Blank k) = None
+dev_next (ClintAt s) = if nat_le s.coming s.mtimecmp then Some s.mtimecmp else None
+dev_next (UartAt s) = None

@@ -1,0 +1,4 @@
+pub mod Calls
+pub mod ClintCalls
+pub mod States
+pub mod UartCalls

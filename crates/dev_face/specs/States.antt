@@ -1,0 +1,70 @@
+-- What contracts see of a device: plain values, by kind.
+use Rattle.std.specs.Prelude.{◌≡◌, ℕ, ◌-◌, ◌^◌, Bool, true, false, IsTrue, List, [], length, take}
+use Rattle.dev_face.specs.declared.kind.Kind.{Kind}
+use Rattle.dev_face.specs.declared.kind.Kind.TheVariants as kind
+use Rattle.dev_face.specs.declared.config.DevConfig.{DevConfig}
+use Rattle.dev_face.specs.declared.config.DevConfig.TheVariants as config
+
+-- a Clint: the next tick that it begins, its software interrupt bit, and the tick that the timer waits for
+pub record ClintState : Type 0 where
+  pub coming : ℕ
+  pub msip : Bool
+  pub mtimecmp : ℕ
+
+-- a Uart: the next tick that it begins
+pub record UartState : Type 0 where
+  pub coming : ℕ
+
+-- a device that is set up, by kind; or a blank one, of which only the kind is there
+pub data DevState : Type 0 where
+  Blank : Kind → DevState
+  ClintAt : ClintState → DevState
+  UartAt : UartState → DevState
+
+abbrev pub kind_of : DevState → Kind
+kind_of (Blank k) = k
+kind_of (ClintAt s) = kind.Clint
+kind_of (UartAt s) = kind.Uart
+
+-- the device was set up
+abbrev pub is_set_up : DevState → Bool
+is_set_up (Blank k) = false
+is_set_up (ClintAt s) = true
+is_set_up (UartAt s) = true
+
+abbrev pub IsSetUp : DevState → Type 0
+IsSetUp s = IsTrue (is_set_up s)
+
+-- the next tick that the device begins
+abbrev pub coming_of : DevState → ℕ
+coming_of (Blank k) = 0
+coming_of (ClintAt s) = s.coming
+coming_of (UartAt s) = s.coming
+
+-- what a configuration is for
+abbrev pub config_kind : DevConfig → Kind
+config_kind config.Clint = kind.Clint
+config_kind config.Uart = kind.Uart
+
+-- the device is blank, and the configuration is of its kind
+abbrev pub IsBlankFor : DevConfig → DevState → Type 0
+IsBlankFor c s = s ≡ Blank (config_kind c)
+
+-- the device after `set_up`: a Clint at reset waits for the last tick that it can name, and its software bit is clear
+abbrev pub opening : DevConfig → DevState
+opening config.Clint = ClintAt (record { coming = 0; msip = false; mtimecmp = 2 ^ 64 - 1 })
+opening config.Uart = UartAt (record { coming = 0 })
+
+-- the device is set up, and this tick is the next that it begins
+abbrev pub IsComing : ℕ → DevState → Type 0
+IsComing now s = IsSetUp s × (coming_of s ≡ now)
+
+-- which frames may arrive at the device: none
+abbrev pub MayArrive : DevState → List (List ℕ) → Type 0
+MayArrive (Blank k) frames = frames ≡ []
+MayArrive (ClintAt s) frames = frames ≡ []
+MayArrive (UartAt s) frames = frames ≡ []
+
+-- a list to which more was put at its end, if anything
+abbrev pub StaysInFront : {A : Type 0} → List A → List A → Type 0
+StaysInFront old new = take (length old) new ≡ old

@@ -1,0 +1,9 @@
+//! The serial port of a guest.
+#![tactic(auto)]
+
+mod uart;
+
+pub use uart::Uart;
+
+#[cfg(test)]
+mod tests;
