@@ -1,9 +1,9 @@
 -- A walk over devices in which the first i were asked: what is left of it is the walk over the others.
-use Rattle.std.proofs.Common.{◌≡◌, ℕ, suc, ◌<◌, ◌+◌, ◌++◌, ◌∷◌, [], List, length, map, get_or, set, take, drop, refl, sym, ◌∙◌, ap, subst, arith, All, add-one, length-set, append_assoc}
+use Rattle.std.proofs.Common.{◌≡◌, ℕ, ◌<◌, ◌+◌, ◌++◌, ◌∷◌, [], List, length, map, get_or, set, take, drop, refl, sym, ◌∙◌, ap, subst, arith, All, length-set, append_assoc}
 use Rattle.std.proofs.lemmas.List.{map-set, length-map, take_more_set, drop-set-lt, drop_more, take_all, drop_all, append-nil}
 use Rattle.std.proofs.lemmas.List.Elements.{All-get_or, All-nil, All-cons, All-head, All-tail}
 use Rattle.trace_rec.specs.declared.rec.Rec.{Rec}
-use Rattle.dev_face.specs.States.{DevState, IsSetUp, IsComing, StaysInFront, kind_of}
+use Rattle.dev_face.specs.States.{DevState, IsSetUp, StaysInFront, kind_of}
 use Rattle.dev_face.specs.Calls.{Ended}
 use Rattle.dev_list.specs.Walks.{Walked, walk, put_first}
 use Rattle.dev_list.proofs.Listed.{state_there, holds_after, kinds_after, front_of, front_same}
@@ -66,7 +66,7 @@ pub along_more : {B : Type 0} (f : B → DevState) (act : DevState → List ℕ 
 along_more f act ss0 xs i ram0 ram out0 out log0 log x y ram' out' log' a h e es er eo el =
     let len : i < length (map f xs) = simp length-map h in
     subst (λ (ss : List DevState). Along act ss0 ss (i + 1) ram0 ram' out0 out' log0 log') (sym (map-set f xs i y))
-      (along_step act ss0 (map f xs) i ram0 ram out0 out log0 log (f x) (f y) ram' out' log' a len (state_there f xs i x (f x) h e) es er eo el)
+    (along_step act ss0 (map f xs) i ram0 ram out0 out log0 log (f x) (f y) ram' out' log' a len (state_there f xs i x (f x) h e) es er eo el)
 
 -- what held of each device at first holds of one that is still to be asked
 pub still_there : {B : Type 0} (f : B → DevState) (P : DevState → Type 0) (act : DevState → List ℕ → Ended) (ss0 : List DevState) (xs : List B) (i : ℕ) (ram0 ram : List ℕ) (out0 out : List (List ℕ)) (log0 log : List Rec) (x : B) →
@@ -122,9 +122,9 @@ pub kept_more : {B : Type 0} (f : B → DevState) (xs0 xs : List B) (i : ℕ) (r
     Kept f xs0 xs ram0 ram out0 out log0 log → i < length xs → x ≡ get_or xs i x → IsSetUp (f y) → kind_of (f y) ≡ kind_of (f x) → length ram' ≡ length ram → StaysInFront out out' → StaysInFront log log' →
     Kept f xs0 (set xs i y) ram0 ram' out0 out' log0 log'
 kept_more f xs0 xs i ram0 ram ram' out0 out out' log0 log log' x y k h e up kind size out_front front = record {
-      set_up = holds_after f IsSetUp xs i y k.set_up up;
-      kinds = kinds_after f xs i x y h e kind ∙ k.kinds;
-      size = size ∙ k.size;
-      out_front = front_of out0 out out' k.out_front out_front;
-      front = front_of log0 log log' k.front front;
-    }
+  set_up = holds_after f IsSetUp xs i y k.set_up up;
+  kinds = kinds_after f xs i x y h e kind ∙ k.kinds;
+  size = size ∙ k.size;
+  out_front = front_of out0 out out' k.out_front out_front;
+  front = front_of log0 log log' k.front front;
+}

@@ -13,10 +13,7 @@ use trace_rec::Log;
 
 /// Sets the timer of the last of two devices to tick 1. Answers whether a timer is up in tick 0 and
 /// in tick 1, and the low half that was set.
-fn drive<D: Device>(
-    alloc: Global,
-    devices: &mut [D],
-) -> Result<(bool, bool, Option<u32>), NoMemory>
+fn drive<D: Device>(alloc: Global, devices: &mut [D]) -> Result<(bool, bool, Option<u32>), NoMemory>
     requires two { length devices.old ≡ 2 }
     requires coming { All (IsComing 0) (map D.state devices.old) }
 {

@@ -11,6 +11,8 @@ use tb_io::{HostFiles, HostSink, Sink};
 use tb_top::{Status, diecast};
 
 #[cfg(test)]
+mod several_tests;
+#[cfg(test)]
 mod tests;
 
 const NOT_WORDS: &[u8; 26] = b"diecast: usage: not-words\n";

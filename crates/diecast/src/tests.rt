@@ -7,14 +7,14 @@ use tb_top::diecast;
 
 mod files;
 
-const JUMP: [u8; 4] = [0x6f, 0, 0, 0];
+pub(crate) const JUMP: [u8; 4] = [0x6f, 0, 0, 0];
 
 /// What a command left: its exit status, what it put, and its message.
 #[derive(Drop)]
-struct Left {
-    code: u8,
-    out: MemSink,
-    msg: MemSink,
+pub(crate) struct Left {
+    pub code: u8,
+    pub out: MemSink,
+    pub msg: MemSink,
 }
 
 /// The experiment of one guest, with this factor, capacity and rate, and more keys of the guest.
@@ -33,13 +33,24 @@ fn run(alloc: Global, text: &str, image: &[u8], ticks: &str, out: MemSink) -> Re
 }
 
 fn command(alloc: Global, files: &mut MemFiles, ticks: &str, out: MemSink) -> Result<Left, Fail> {
-    let mut words = Vec::new(alloc);
-    for word in ["run", "a.toml", "--host-ticks", ticks, "--view", "journal"] {
-        words.push(String::from_str(alloc, word)?)?;
+    let words = ["run", "a.toml", "--host-ticks", ticks, "--view", "journal"];
+    call(alloc, files, &words, out)
+}
+
+/// Calls the top call with these words over a sink.
+pub(crate) fn call(
+    alloc: Global,
+    files: &mut MemFiles,
+    words: &[&str],
+    out: MemSink,
+) -> Result<Left, Fail> {
+    let mut owned = Vec::new(alloc);
+    for word in words {
+        owned.push(String::from_str(alloc, word)?)?;
     }
     let mut out = out;
     let mut msg = MemSink::new(alloc, 200)?;
-    let status = diecast(alloc, &words, files, &mut out, &mut msg);
+    let status = diecast(alloc, &owned, files, &mut out, &mut msg);
     Ok(Left {
         code: code_of(&status),
         out,
@@ -47,7 +58,7 @@ fn command(alloc: Global, files: &mut MemFiles, ticks: &str, out: MemSink) -> Re
     })
 }
 
-fn room(alloc: Global) -> Result<MemSink, Fail> {
+pub(crate) fn room(alloc: Global) -> Result<MemSink, Fail> {
     Ok(MemSink::new(alloc, 2000)?)
 }
 

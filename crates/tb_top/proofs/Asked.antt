@@ -48,7 +48,7 @@ of_told P o t e h = subst (λ z. IfSome z P) e h
 ok_is : {A B : Type 0} {x y : A} {r : Result A B} → r ≡ Ok x → r ≡ Ok y → x ≡ y
 ok_is h k = cc (h, k)
 
-ok_not_err : {A B : Type 0} {x : A} {y : B} {r : Result A B} → r ≡ Ok x → r ≡ Err y → ⊥
+pub ok_not_err : {A B : Type 0} {x : A} {y : B} {r : Result A B} → r ≡ Ok x → r ≡ Err y → ⊥
 ok_not_err h k = cc (h, k)
 
 -- the words are refused for no fault

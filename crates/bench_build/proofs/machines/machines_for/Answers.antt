@@ -6,7 +6,6 @@ use Rattle.std.proofs.lemmas.Iterator.Consumers.{YieldsList-turn}
 use Rattle.lookahead_core.specs.Motion.{Idle}
 use Rattle.guest_machine.specs.MachineView.{machine_state, machine_clock}
 use Rattle.guest_machine.specs.Tick.{MachineState}
-use Rattle.bench_build.specs.declared.shape.Shape.{Shape}
 use Rattle.bench_build.specs.Openings.{openings}
 use Rattle.bench_build.proofs.Openings.{get_at, states_push, openings_push, all_push}
 use Rattle.bench_build.proofs.machines.machines_for.Goals as goal

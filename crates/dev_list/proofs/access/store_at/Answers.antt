@@ -1,7 +1,7 @@
-use Rattle.std.proofs.Common.{◌≡◌, ap, sym, ◌∙◌, subst, get_or, slice_index_or, map, arith}
+use Rattle.std.proofs.Common.{ap, sym, ◌∙◌, subst, get_or, arith}
 use Rattle.std.proofs.lemmas.List.{map-set}
 use Rattle.std.proofs.lemmas.Grind.{common_steps}
-use Rattle.dev_face.specs.States.{DevState, IsSetUp, IsComing, kind_of}
+use Rattle.dev_face.specs.States.{IsSetUp, IsComing, kind_of}
 use Rattle.dev_list.proofs.ByKind.{stored_set_up, stored_coming, stored_kind}
 use Rattle.dev_list.proofs.Listed.{holds_there, holds_after, kinds_after, state_there}
 use Rattle.dev_list.proofs.access.store_at.Goals as goal
@@ -32,4 +32,4 @@ pub returns-clause-kinds : goal.returns-clause-kinds
 returns-clause-kinds g c =
     let at = ap (get_or c.args.devices.now c.args.i) c.index-devices-i.is in
     kinds_after g.D.Device.state c.args.devices.now c.args.i _ c.store.new.self c.requires.there at
-      (ap kind_of c.store.ensures.after ∙ stored_kind (g.D.Device.state (get_or c.args.devices.now c.args.i c.index-devices-i.result)) c.args.now c.args.off c.args.width c.args.value)
+    (ap kind_of c.store.ensures.after ∙ stored_kind (g.D.Device.state (get_or c.args.devices.now c.args.i c.index-devices-i.result)) c.args.now c.args.off c.args.width c.args.value)

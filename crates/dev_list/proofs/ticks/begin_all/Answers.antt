@@ -1,12 +1,12 @@
-use Rattle.std.proofs.Common.{◌≡◌, ◌+◌, ◌++◌, All, rules, map, ap, sym, ◌∙◌, subst, get_or, [], refl}
+use Rattle.std.proofs.Common.{◌+◌, ◌++◌, All, rules, map, ap, sym, ◌∙◌, subst, get_or, [], refl}
 use Rattle.std.proofs.lemmas.List.{length-map}
 use Rattle.std.proofs.lemmas.List.Elements.{All-weaker}
-use Rattle.dev_face.specs.States.{DevState, IsSetUp, IsComing, MayArrive, kind_of}
+use Rattle.dev_face.specs.States.{DevState, IsSetUp, IsComing, MayArrive}
 use Rattle.dev_face.specs.Calls.{dev_begin}
 use Rattle.dev_list.specs.Walks.{begin_one}
 use Rattle.dev_list.proofs.ByKind.{nothing_arrives, begun_coming}
 use Rattle.dev_list.proofs.Listed.{holds_after, kinds_after, front_of}
-use Rattle.dev_list.proofs.Walking.{along_start, along_more, along_end, still_there, kept_start, kept_more, walk_holds, Over}
+use Rattle.dev_list.proofs.Walking.{along_start, along_more, along_end, still_there, kept_start, kept_more, walk_holds}
 use Rattle.dev_list.proofs.ticks.begin_all.Goals as goal
 
 pub loop-i-init : goal.loop-i-init
@@ -32,10 +32,10 @@ loop-i-preserved g c =
     let was : DevState = g.D.Device.state (get_or c.loop-i.devices c.loop-i.i c.index-devices-i.result) in
     record {
       along = along_more g.D.Device.state (begin_one c.args.now) _ c.loop-i.devices c.loop-i.i _ c.loop-i.ram [] [] _ c.loop-i.log.items _ c.begin_tick.new.self _ [] _ inv.along (search rules) at
-        (e.state ∙ ap (λ fs. (dev_begin was c.args.now c.loop-i.ram fs).device) inv.none)
-        (e.ram ∙ ap (λ fs. (dev_begin was c.args.now c.loop-i.ram fs).ram) inv.none)
-        refl
-        (e.recs ∙ ap (λ fs. c.loop-i.log.items ++ (dev_begin was c.args.now c.loop-i.ram fs).recs) inv.none);
+          (e.state ∙ ap (λ fs. (dev_begin was c.args.now c.loop-i.ram fs).device) inv.none)
+          (e.ram ∙ ap (λ fs. (dev_begin was c.args.now c.loop-i.ram fs).ram) inv.none)
+          refl
+          (e.recs ∙ ap (λ fs. c.loop-i.log.items ++ (dev_begin was c.args.now c.loop-i.ram fs).recs) inv.none);
       kept = kept_more g.D.Device.state _ c.loop-i.devices c.loop-i.i _ c.loop-i.ram _ [] [] [] _ c.loop-i.log.items _ _ c.begin_tick.new.self inv.kept (search rules) at e.still e.kind e.size refl e.front;
       none = e.emptied;
     }

@@ -1,11 +1,11 @@
-use Rattle.std.proofs.Common.{◌≡◌, ◌+◌, All, rules, map, ap, sym, ◌∙◌, subst, get_or}
+use Rattle.std.proofs.Common.{◌+◌, All, rules, map, ap, sym, ◌∙◌, subst, get_or}
 use Rattle.std.proofs.lemmas.List.{length-map}
 use Rattle.std.proofs.lemmas.List.Elements.{All-weaker}
-use Rattle.dev_face.specs.States.{DevState, IsSetUp, IsComing, kind_of}
+use Rattle.dev_face.specs.States.{IsSetUp, IsComing}
 use Rattle.dev_list.specs.Walks.{end_one}
 use Rattle.dev_list.proofs.ByKind.{ended_coming}
 use Rattle.dev_list.proofs.Listed.{holds_after, kinds_after, front_of}
-use Rattle.dev_list.proofs.Walking.{along_start, along_more, along_end, still_there, kept_start, kept_more, walk_holds, Over}
+use Rattle.dev_list.proofs.Walking.{along_start, along_more, along_end, still_there, kept_start, kept_more, walk_holds}
 use Rattle.dev_list.proofs.ticks.end_all.Goals as goal
 
 pub loop-i-init : goal.loop-i-init

@@ -1,4 +1,4 @@
-use Rattle.std.proofs.Common.{◌≡◌, [], map}
+use Rattle.std.proofs.Common.{map}
 use Rattle.dev_list.specs.Walks.{end_one}
 use Rattle.dev_list.proofs.Walking.{Along, Kept}
 use Rattle.dev_list.proofs.ticks.end_all.Given as goal

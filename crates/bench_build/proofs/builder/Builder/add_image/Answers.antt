@@ -1,10 +1,8 @@
 -- One image more is that of the next guest.
-use Rattle.std.proofs.Common.{◌≡◌, ℕ, ◌<◌, List, [], ◌∷◌, ◌++◌, length, length-append, refl, sym, ap, ◌∙◌, subst, arith}
+use Rattle.std.proofs.Common.{◌≡◌, ◌<◌, List, [], ◌∷◌, ◌++◌, length, length-append, refl, sym, ap, ◌∙◌, subst, arith}
 use Rattle.std.proofs.lemmas.Option.{slice_get_read}
 use Rattle.std.proofs.lemmas.List.{length-map}
-use Rattle.std.specs.Prelude.{slice_get, Some}
 use Rattle.bench_build.specs.declared.loaded.Loaded.{Loaded}
-use Rattle.bench_build.specs.declared.shape.Shape.{Shape}
 use Rattle.bench_build.specs.Building.{AreLoaded}
 use Rattle.bench_build.specs.Setups.{shape_of}
 use Rattle.bench_build.proofs.Openings.{some_at, next_shape, loaded_push, refused_is, taken_is}

@@ -1,5 +1,5 @@
 -- The names of the book are those of its guests, with one guest more.
-use Rattle.std.proofs.Common.{◌∷◌, [], ◌++◌, ◌≡◌, false, ap, sym, subst, ◌∙◌}
+use Rattle.std.proofs.Common.{◌∷◌, [], ◌++◌, ap, ◌∙◌}
 use Rattle.exp_file.specs.Tables.{is_named}
 use Rattle.exp_file.proofs.Books.{inserted}
 use Rattle.exp_file.proofs.book.GuestBook.push.Goals as goal
