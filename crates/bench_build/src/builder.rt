@@ -1,5 +1,5 @@
 //! The builder of a bench.
-ghost use Rattle.std.specs.Prelude.{◌≡◌, ℕ, ◌+◌, ◌*◌, ◌<◌, ◌≤◌, ◌^◌, ◌%◌, List, [], ◌∷◌, ◌++◌, length, slice_get, slice_index, Some, true, false, OnOk, OnErr, IfOk, IfErr, All, map};
+ghost use Rattle.std.specs.Prelude.{◌≡◌, ℕ, ◌+◌, ◌*◌, ◌<◌, ◌≤◌, ◌%◌, List, [], ◌∷◌, ◌++◌, length, slice_get, slice_index, Some, true, false, OnOk, OnErr, IfOk, IfErr, All, map};
 ghost use Rattle.dev_face.specs.States.{IsBlankFor};
 ghost use Rattle.dev_face.specs.declared.config.DevConfig.TheVariants as config;
 ghost use Rattle.exp_file.specs.Reading.{is_built};
@@ -118,7 +118,6 @@ impl Builder {
         uarts: Vec<D>,
     ) -> Result<Bench<Machine<D>>, BuildFault>
         requires all { added self ≡ wanted self }
-        requires few { (length clints.items < 2 ^ 32) × (length uarts.items < 2 ^ 32) }
         requires clints { All (IsBlankFor config.Clint) (map D.state clints.items) }
         requires uarts { All (IsBlankFor config.Uart) (map D.state uarts.items) }
         ensures stands { IfOk result (λ bench. (e : Experiment) (slots : List ℕ) (images : List (List ℕ)) (n : ℕ) → IsBuilding e slots images self →

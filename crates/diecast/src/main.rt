@@ -8,12 +8,16 @@ use std::env;
 use std::io::{self, BufWriter, ErrorKind, Write};
 use std::process::ExitCode;
 use tb_io::{HostFiles, HostSink, Sink};
-use tb_top::{Status, diecast};
+use tb_top::Status;
 
-#[cfg(test)]
-mod several_tests;
+mod boxes;
 #[cfg(test)]
 mod tests;
+
+use boxes::run_with;
+
+/// How many devices of each kind there are: one for each of the guests that an experiment may have.
+const BOXES: usize = 32;
 
 const NOT_WORDS: &[u8; 26] = b"diecast: usage: not-words\n";
 
@@ -69,7 +73,9 @@ fn main(rt: HostRuntime) -> ExitCode {
     };
     let mut files = HostFiles::new(alloc, own);
     let mut out = HostSink::new(buffer);
-    let status = diecast(alloc, &words, &mut files, &mut out, &mut msg);
+    let Ok(status) = run_with(alloc, &words, &mut files, &mut out, &mut msg, BOXES, BOXES) else {
+        return stop(&mut msg, OUT_OF_MEMORY, 7);
+    };
     // Lines may still wait in the buffer. Where the command ended well, it has not ended so if they fail.
     let flushed = out.flush();
     if flushed.is_err() && matches!(&status, Status::Done) {

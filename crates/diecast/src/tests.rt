@@ -1,11 +1,14 @@
 //! Whole commands over files and sinks in memory.
+use crate::boxes::run_with;
 use crate::code_of;
 use std::alloc::Global;
 use std::test::Fail;
 use tb_io::{MemFiles, MemSink};
-use tb_top::diecast;
 
+mod devices;
 mod files;
+mod several;
+mod steps;
 
 pub(crate) const JUMP: [u8; 4] = [0x6f, 0, 0, 0];
 
@@ -44,13 +47,24 @@ pub(crate) fn call(
     words: &[&str],
     out: MemSink,
 ) -> Result<Left, Fail> {
+    call_with(alloc, files, words, out, 4)
+}
+
+/// The same with a stock of four Clints and so many Uarts.
+pub(crate) fn call_with(
+    alloc: Global,
+    files: &mut MemFiles,
+    words: &[&str],
+    out: MemSink,
+    uarts: usize,
+) -> Result<Left, Fail> {
     let mut owned = Vec::new(alloc);
     for word in words {
         owned.push(String::from_str(alloc, word)?)?;
     }
     let mut out = out;
     let mut msg = MemSink::new(alloc, 200)?;
-    let status = diecast(alloc, &owned, files, &mut out, &mut msg);
+    let status = run_with(alloc, &owned, files, &mut out, &mut msg, 4, uarts)?;
     Ok(Left {
         code: code_of(&status),
         out,
@@ -79,27 +93,6 @@ end 2\n";
     assert_eq!(rt; left.code, 0);
     assert_eq!(rt; left.out.bytes(), wanted.as_slice());
     assert_eq!(rt; left.msg.bytes(), b"".as_slice());
-    Ok(())
-}
-
-#[test]
-fn a_word_of_zeros_traps(rt: HostRuntime) -> Result<(), Fail> {
-    let wanted = b"diecast 1 factor 1 slots 1 guests 1 host 1\n\
-host 1\n\
-slot 0\n\
-run 0 units 1 done 1\n\
-0 0 trap 00000002 80000000\n\
-end 1\n";
-    let alloc = rt.alloc();
-    let left = run(
-        alloc,
-        &file(alloc, 1, 1, 1, "")?,
-        &[0, 0, 0, 0],
-        "1",
-        room(alloc)?,
-    )?;
-    assert_eq!(rt; left.code, 0);
-    assert_eq!(rt; left.out.bytes(), wanted.as_slice());
     Ok(())
 }
 

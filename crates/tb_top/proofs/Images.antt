@@ -96,4 +96,7 @@ stops held now e guests old new i before faults risen name g slots (load.Build (
       at = at_index guests e.guests.items i i g gs lt is refl;
       why = subst (λ (h : List ℕ → Option (List ℕ)). IsRefused h (λ k b. IsFault k b fault) g) same got.1;
     })
+stops held now e guests old new i before faults risen name g slots (load.Build (build.NoDevice kind wanted had)) gs lt is same later at_i loads along =
+    let n : length along.0 ≡ i = omega (arith, along.2.count, at_i) in
+    absurd (loads along.0 along.2 (at_index guests e.guests.items i (length along.0) g gs lt is n))
 stops held now e guests old new i before faults risen name g slots (load.Build build.NoMemory) gs lt is same later at_i loads along = tt

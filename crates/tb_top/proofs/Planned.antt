@@ -55,6 +55,7 @@ ends_memory w Memory not ends = ends
 ends_memory w (Usage f) not (quiet, h) = inl quiet
 ends_memory w (Refused f) not (quiet, h) = inl quiet
 ends_memory w (Build (build.Image i f)) not (quiet, h) = inl quiet
+ends_memory w (Build (build.NoDevice kind wanted had)) not (quiet, h) = inl quiet
 ends_memory w (Build build.NoMemory) not ends = absurd ends
 ends_memory w (TooLong file.Experiment) not (quiet, h) = inl quiet
 ends_memory w (TooLong (file.Image i)) not (quiet, h) = inl quiet
@@ -103,4 +104,5 @@ module _ (w : World) (e : Experiment) (asks : Asks w.words w.held Plan e) where
   planned_ends (ReadFault (file.Image i)) (quiet, (name, (t, command, (b, read, (f, says, (fits, (run, stops))))))) files = absurd (no_image name t command run)
   planned_ends (ReadFault (file.Disk i)) ends files = absurd ends
   planned_ends (Build (build.Image i fault)) (quiet, (name, (t, command, (b, read, (f, says, (fits, (run, stops))))))) files = absurd (no_image name t command run)
+  planned_ends (Build (build.NoDevice kind wanted had)) (quiet, (name, (t, command, (b, read, (f, says, (fits, (run, short))))))) files = absurd (no_image name t command run)
   planned_ends (Build build.NoMemory) ends files = absurd ends

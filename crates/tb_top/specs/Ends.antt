@@ -10,6 +10,8 @@ use Rattle.host_plan.specs.Placing.{placed}
 use Rattle.plan_text.specs.Puts.{PutsPlan, PutsPlanPart}
 use Rattle.host_plan.specs.declared.overload.Overload.{Overload as Over}
 use Rattle.bench_build.specs.Answers.{IsTaken, IsFault}
+use Rattle.bench_build.specs.Stocks.{Suffices, IsShort}
+use Rattle.bench_build.specs.declared.build_fault.BuildFault.{BuildFault}
 use Rattle.bench_build.specs.declared.build_fault.BuildFault.TheVariants as build
 use Rattle.tb_top.specs.declared.fetch.Missed.{Missed}
 use Rattle.tb_top.specs.declared.fetch.Missed.TheVariants as missed
@@ -27,7 +29,8 @@ use Rattle.tb_top.specs.declared.words.Task.{Task}
 use Rattle.tb_top.specs.declared.words.Task.TheVariants.{Run, Plan}
 
 -- all that the clause of the top call speaks of: the words, what the files tell, the faults of the files and of out
--- before and after the call, the fault name of the files after it, and the bytes that out tells before and after it
+-- before and after the call, the fault name of the files after it, the bytes that out tells before and after it, and how many
+-- Clints and Uarts the stock has
 pub record World : Type 0 where
   pub words : List (List ℕ)
   pub held : List ℕ → Option (List ℕ)
@@ -35,10 +38,11 @@ pub record World : Type 0 where
   pub fault_name : List ℕ
   pub taken : Option (List ℕ) × Option (List ℕ)
   pub out_faults : ℕ × ℕ
+  pub stock : ℕ × ℕ
 
-abbrev pub world : List (List ℕ) → (List ℕ → Option (List ℕ)) → ℕ → ℕ → List ℕ → Option (List ℕ) → Option (List ℕ) → ℕ → ℕ → World
-world words held f0 f1 name t0 t1 o0 o1 =
-    record { words = words; held = held; file_faults = (f0, f1); fault_name = name; taken = (t0, t1); out_faults = (o0, o1) }
+abbrev pub world : List (List ℕ) → (List ℕ → Option (List ℕ)) → ℕ → ℕ → List ℕ → Option (List ℕ) → Option (List ℕ) → ℕ → ℕ → ℕ → ℕ → World
+world words held f0 f1 name t0 t1 o0 o1 clints uarts =
+    record { words = words; held = held; file_faults = (f0, f1); fault_name = name; taken = (t0, t1); out_faults = (o0, o1); stock = (clints, uarts) }
 
 -- The steps of a command, each with a fact about what it leads to.
 
@@ -79,8 +83,16 @@ abbrev pub Quiet : World → Type 0
 Quiet w = w.taken.1 ≡ w.taken.0
 
 -- all images were taken
+abbrev pub Loaded : World → Experiment → (List (List ℕ) → Type 0) → Type 0
+Loaded w e P = (images : List (List ℕ)) × AreLoaded w.held e.guests.items images × P images
+
+-- it is to be run, all images were taken, and there are too few devices of this kind
+abbrev pub Unsupplied : World → BuildFault → Type 0
+Unsupplied w f = Placed w (λ t e. IsToRun t × Loaded w e (λ images. IsShort (length e.guests.items) w.stock.0 w.stock.1 f))
+
+-- all images were taken, and each guest has its devices
 abbrev pub Built : World → Experiment → (List (List ℕ) → Type 0) → Type 0
-Built w e P = (images : List (List ℕ)) × AreLoaded w.held e.guests.items images × P images
+Built w e P = Loaded w e (λ images. Suffices (length e.guests.items) w.stock.0 w.stock.1 × P images)
 
 -- out has taken all of what the words ask for: the text of a complete legal journal of the run, or the plan
 abbrev pub PutsTask : World → Task → Experiment → Type 0
@@ -113,21 +125,26 @@ Ends w (Overload slot need have) = WellFormed w (λ t e. IsFirstOverload e (plac
 Ends w (TooLong (file.Image i)) = Quiet w × AtImage w i (λ g. IsTooLong w IMAGE_FILE g.image)
 Ends w (ReadFault (file.Image i)) = Quiet w × AtImage w i (λ g. FailedAt w g.image)
 Ends w (Build (build.Image i fault)) = Quiet w × AtImage w i (IsRefused w.held (λ g b. IsFault g b fault))
+Ends w (Build (build.NoDevice kind wanted had)) = Quiet w × Unsupplied w (build.NoDevice kind wanted had)
 Ends w Done = IsAllPut w
 Ends w WriteFault = Rose w.out_faults.0 w.out_faults.1 × IsPartPut w
 Ends w Memory = Quiet w ⊎ IsPartPut w
 Ends w _ = ⊥
 
--- the status of a file that gave no bytes, and of images that were not taken
+-- the status of a file that gave no bytes, of a bench that was not built, and of images that were not taken
 abbrev pub missed_status : FileId → Missed → Status
 missed_status f missed.Failed = ReadFault f
 missed_status f missed.TooLong = TooLong f
 missed_status f missed.NoMemory = Memory
 
+abbrev pub build_status : BuildFault → Status
+build_status build.NoMemory = Memory
+build_status (build.Image i fault) = Build (build.Image i fault)
+build_status (build.NoDevice kind wanted had) = Build (build.NoDevice kind wanted had)
+
 abbrev pub load_status : LoadErr → Status
 load_status (load.Missed i m) = missed_status (file.Image i) m
-load_status (load.Build build.NoMemory) = Memory
-load_status (load.Build (build.Image i fault)) = Build (build.Image i fault)
+load_status (load.Build fault) = build_status fault
 
 -- the status of a command that is at its end, by whether the placement fits
 abbrev pub fit_status : Result (Unit {0}) Over → Status

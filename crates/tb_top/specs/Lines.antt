@@ -12,6 +12,8 @@ use Rattle.elf_image.specs.declared.fault.ElfFault.{ElfFault}
 use Rattle.elf_image.specs.declared.fault.ElfFault.TheVariants as elf
 use Rattle.bench_build.specs.declared.image_fault.ImageFault.{ImageFault}
 use Rattle.bench_build.specs.declared.image_fault.ImageFault.TheVariants as image
+use Rattle.dev_face.specs.declared.kind.Kind.{Kind}
+use Rattle.dev_face.specs.declared.kind.Kind.TheVariants as kind
 use Rattle.bench_build.specs.declared.build_fault.BuildFault.{BuildFault}
 use Rattle.bench_build.specs.declared.build_fault.BuildFault.TheVariants as build
 use Rattle.tb_top.specs.declared.words.WordFault.{WordFault}
@@ -76,8 +78,13 @@ abbrev pub image_words : ImageFault → List ℕ
 image_words image.TooLong = codes ": too-long"
 image_words (image.Elf fault) = elf_word fault ++ header_words fault
 
+abbrev pub kind_word : Kind → List ℕ
+kind_word kind.Clint = codes "clint"
+kind_word kind.Uart = codes "uart"
+
 unfoldable pub build_words : BuildFault → List ℕ
 build_words (build.Image guest fault) = codes "image " ++ decimal guest ++ image_words fault
+build_words (build.NoDevice k wanted had) = codes "stock: " ++ kind_word k ++ codes " wanted " ++ decimal wanted ++ codes ", had " ++ decimal had
 build_words build.NoMemory = codes "out of memory"
 
 abbrev pub file_words : FileId → List ℕ

@@ -18,6 +18,7 @@ abbrev pub ImageLoads : (List ℕ → Option (List ℕ)) → ℕ → GuestSpec �
 ImageLoads held i g before now name Taken (Ok _) = (b : List ℕ) × IsRead (held g.image) IMAGE_FILE b × IsTaken g b × Taken b
 ImageLoads held i g before now name Taken (Err (load.Missed j m)) = (j ≡ i) × Misses (held g.image) IMAGE_FILE g.image before now name m
 ImageLoads held i g before now name Taken (Err (load.Build (build.Image j fault))) = (j ≡ i) × IsRefused held (λ k b. IsFault k b fault) g
+ImageLoads held i g before now name Taken (Err (load.Build (build.NoDevice kind wanted had))) = ⊥
 ImageLoads held i g before now name Taken (Err (load.Build build.NoMemory)) = Unit {0}
 
 -- the images of all guests, in their order, up to the first that is not taken
@@ -25,4 +26,5 @@ abbrev pub AllLoad : (List ℕ → Option (List ℕ)) → List GuestSpec → ℕ
 AllLoad held guests before now name Taken (Ok _) = (images : List (List ℕ)) × AreLoaded held guests images × Taken images
 AllLoad held guests before now name Taken (Err (load.Missed i m)) = Stops held guests i (λ g. Misses (held g.image) IMAGE_FILE g.image before now name m)
 AllLoad held guests before now name Taken (Err (load.Build (build.Image i fault))) = Stops held guests i (IsRefused held (λ k b. IsFault k b fault))
+AllLoad held guests before now name Taken (Err (load.Build (build.NoDevice kind wanted had))) = ⊥
 AllLoad held guests before now name Taken (Err (load.Build build.NoMemory)) = Unit {0}

@@ -9,6 +9,7 @@ mod status;
 mod top;
 mod words;
 
+pub use bench_build::Stock;
 pub use status::{FileId, Status};
 pub use top::diecast;
 pub use words::WordFault;

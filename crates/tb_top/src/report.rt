@@ -3,11 +3,12 @@ ghost use Rattle.std.specs.Prelude.{◌≡◌, ◌++◌, ◌⊎◌, ℕ, map, ta
 ghost use Rattle.std.specs.Fmt.{decimal};
 ghost use Rattle.tb_io.specs.Causes.{Rose};
 ghost use Rattle.tb_io.specs.Puts.{Takes};
-ghost use Rattle.tb_top.specs.Lines.{status_line, is_done, why_word, section_word, usage_word, file_words, fault_words, build_words, image_words, elf_word, header_words, shown_key, shown_byte, Told};
+ghost use Rattle.tb_top.specs.Lines.{status_line, is_done, why_word, section_word, usage_word, file_words, fault_words, build_words, kind_word, image_words, elf_word, header_words, shown_key, shown_byte, Told};
 
 use crate::status::{FileId, Status};
 use crate::words::WordFault;
 use bench_build::{BuildFault, ImageFault};
+use dev_face::Kind;
 use elf_image::ElfFault;
 use exp_file::{ExpFault, ExpWhy, Section};
 use std::alloc::Global;
@@ -147,6 +148,12 @@ fn add_build(line: &mut Bytes, fault: &BuildFault) -> Result<(), NoMemory>
             add(line, b"image ", u64::from(*guest))?;
             add_image(line, *fault)?;
         }
+        BuildFault::NoDevice { kind, wanted, had } => {
+            line.push_slice(b"stock: ")?;
+            line.push_slice(kind_word(*kind).as_bytes())?;
+            add(line, b" wanted ", u64::from(*wanted))?;
+            add(line, b", had ", u64::from(*had))?;
+        }
         BuildFault::NoMemory => line.push_slice(b"out of memory")?,
     }
     Ok(())
@@ -196,6 +203,15 @@ fn usage_word(fault: WordFault) -> &'static str
         WordFault::NotWords => "not-words",
         WordFault::EmptyName => "empty-name",
         WordFault::BadNumber => "bad-number",
+    }
+}
+
+fn kind_word(kind: Kind) -> &'static str
+    ensures { result.now ≡ kind_word kind }
+{
+    match kind {
+        Kind::Clint => "clint",
+        Kind::Uart => "uart",
     }
 }
 

@@ -8,6 +8,7 @@ ghost use Rattle.slot_sched.specs.Legal.{start};
 ghost use Rattle.bench_build.specs.Setups.{setup, plan};
 ghost use Rattle.tb_top.specs.Runs.{IsHead, Runs};
 
+use dev_face::Device;
 use exp_file::{Experiment, GuestSpec};
 use guest_machine::Machine;
 use host_journal::{Head, JournalKeep, KeepErr};
@@ -69,9 +70,9 @@ fn head_for(alloc: Global, e: &Experiment, host_ticks: u64) -> Result<Head, NoMe
 }
 
 /// Puts the journal of a bench by a keeper that was just made.
-fn put_run<O: Sink>(
+fn put_run<O: Sink, D: Device>(
     keep: &mut JournalKeep,
-    bench: Bench<Machine>,
+    bench: Bench<Machine<D>>,
     host_ticks: u64,
     out: &mut O,
 ) -> Result<(), RunErr>
@@ -100,11 +101,11 @@ fn put_run<O: Sink>(
 }
 
 /// Runs a bench for so many host ticks, and puts its journal.
-pub(crate) fn run<O: Sink>(
+pub(crate) fn run<O: Sink, D: Device>(
     alloc: Global,
     e: &Experiment,
     host_ticks: u64,
-    bench: Bench<Machine>,
+    bench: Bench<Machine<D>>,
     out: &mut O,
 ) -> Result<(), RunErr>
     requires well_formed { IsWellFormed e.now }

@@ -1,5 +1,5 @@
 -- The experiment is what the bytes that were read say.
-use Rattle.std.proofs.Common.{ℕ, List, Option, sym, ap, ◌∙◌, subst}
+use Rattle.std.proofs.Common.{ℕ, List, Option, sym, ap, ◌∙◌, subst, length}
 use Rattle.tb_base.specs.declared.limits.TheConstants.{EXPERIMENT_FILE}
 use Rattle.exp_file.specs.Reading.{reading}
 use Rattle.tb_top.specs.Ends.{Ends, world}
@@ -15,5 +15,5 @@ returns-in-Ok-read_experiment g c = λ words command.
     subst
     (λ (h : List ℕ → Option (List ℕ)).
     Ends (world words h (g.F.Files.faults c.args.files.now) (g.F.Files.faults c.do_task.new.files) (g.F.Files.fault_name c.do_task.new.files)
-    (g.O.Sink.taken c.args.out.now) (g.O.Sink.taken c.do_task.new.out) (g.O.Sink.faults c.args.out.now) (g.O.Sink.faults c.do_task.new.out)) c.do_task.result)
+    (g.O.Sink.taken c.args.out.now) (g.O.Sink.taken c.do_task.new.out) (g.O.Sink.faults c.args.out.now) (g.O.Sink.faults c.do_task.new.out) (length c.args.clints.items) (length c.args.uarts.items)) c.do_task.result)
     same (c.do_task.ensures words name c.in-Ok.bytes (g.F.Files.faults c.args.files.now) command read says c.in-Ok.ensures.later)

@@ -1,5 +1,5 @@
 //! Plans and runs of several guests over files and sinks in memory.
-use crate::tests::{JUMP, Left, call, room};
+use super::{JUMP, Left, call, room};
 use std::alloc::Global;
 use std::test::Fail;
 use tb_io::{MemFiles, MemSink};

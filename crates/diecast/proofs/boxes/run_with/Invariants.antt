@@ -1,0 +1,12 @@
+use Rattle.std.proofs.Common.{All, map}
+use Rattle.dev_face.specs.States.{IsBlankFor}
+use Rattle.dev_face.specs.declared.config.DevConfig.TheVariants as config
+use Rattle.dev_face.specs.contracts.boxed.BoxDynDeviceDevice.TheImpl.{state-value}
+use Rattle.diecast.proofs.boxes.run_with.OwnLists.{own-1, lawful-own-1}
+use Rattle.diecast.proofs.boxes.run_with.Given as goal
+
+abbrev pub invariant-loop : goal.invariant-loop
+invariant-loop g l = All (IsBlankFor config.Clint) (map (state-value (own-1, lawful-own-1)).it l.clints.items)
+
+abbrev pub invariant-loop-2 : goal.invariant-loop-2
+invariant-loop-2 g l = All (IsBlankFor config.Uart) (map (state-value (own-1, lawful-own-1)).it l.uarts.items)
