@@ -10,14 +10,10 @@ use trace_rec::Log;
 fn a_byte_is_sent_and_all_else_ignored(rt: HostRuntime) -> Result<(), Fail> {
     let mut uart = Uart::new(rt.alloc());
     uart.set_up(&DevConfig::Uart)?;
-    for (off, width, want) in [
-        (0, Width::Byte, StoreDone::Byte(65)),
-        (0, Width::Half, StoreDone::Done),
-        (0, Width::Word, StoreDone::Done),
-        (5, Width::Byte, StoreDone::Done),
-    ] {
-        assert!(rt; uart.store(0, off, width, 0x1041) == want, "at {off}");
-    }
+    assert!(rt; uart.store(0, 0, Width::Byte, 0x1041) == StoreDone::Byte(65));
+    assert!(rt; uart.store(0, 0, Width::Half, 0x1041) == StoreDone::Done);
+    assert!(rt; uart.store(0, 0, Width::Word, 0x1041) == StoreDone::Done);
+    assert!(rt; uart.store(0, 5, Width::Byte, 0x1041) == StoreDone::Done);
     for (off, width, want) in [
         (5, Width::Byte, Some(0x60)),
         (0, Width::Byte, Some(0)),
