@@ -5,6 +5,7 @@ use std::alloc::Global;
 use std::test::Fail;
 use tb_io::{MemFiles, MemSink};
 
+mod counting;
 mod devices;
 mod files;
 mod several;
@@ -40,6 +41,15 @@ fn command(alloc: Global, files: &mut MemFiles, ticks: &str, out: MemSink) -> Re
     call(alloc, files, &words, out)
 }
 
+/// These words, each with its own memory.
+pub(crate) fn owned(alloc: Global, words: &[&str]) -> Result<Vec<String>, Fail> {
+    let mut owned = Vec::new(alloc);
+    for word in words {
+        owned.push(String::from_str(alloc, word)?)?;
+    }
+    Ok(owned)
+}
+
 /// Calls the top call with these words over a sink.
 pub(crate) fn call(
     alloc: Global,
@@ -58,13 +68,10 @@ pub(crate) fn call_with(
     out: MemSink,
     uarts: usize,
 ) -> Result<Left, Fail> {
-    let mut owned = Vec::new(alloc);
-    for word in words {
-        owned.push(String::from_str(alloc, word)?)?;
-    }
+    let words = owned(alloc, words)?;
     let mut out = out;
     let mut msg = MemSink::new(alloc, 200)?;
-    let status = run_with(alloc, &owned, files, &mut out, &mut msg, 4, uarts)?;
+    let status = run_with(alloc, &words, files, &mut out, &mut msg, 4, uarts)?;
     Ok(Left {
         code: code_of(&status),
         out,

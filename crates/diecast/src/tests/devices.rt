@@ -1,8 +1,17 @@
 //! Guests that reach their devices.
-use super::{JUMP, Left, call_with, file, room, run};
+use super::counting::Counting;
+use super::{JUMP, Left, call_with, file, owned, room, run};
+use crate::boxes::add;
+use crate::code_of;
+use clint_dev::Clint;
+use dev_face::{DevConfig, Device};
 use std::alloc::Global;
+use std::cell::Cell;
+use std::rc::Rc;
 use std::test::Fail;
 use tb_io::{MemFiles, MemSink};
+use tb_top::{Stock, diecast};
+use uart_dev::Uart;
 
 /// Sends a byte, and jumps in place.
 const SENDS: &[u8; 16] = b"\xb7\x02\0\x10\x13\x03\x10\x04\x23\x80\x62\0\x6f\0\0\0";
@@ -81,5 +90,41 @@ fn a_timer_goes_up_at_its_virtual_tick(rt: HostRuntime) -> Result<(), Fail> {
         assert_eq!(rt; left.code, 0);
         assert_eq!(rt; records(alloc, &left)?.as_str(), FOUR_TICKS);
     }
+    Ok(())
+}
+
+/// Boxes that are handed in begin and end each tick once, and are asked for their lines when it
+/// begins and after a store to a device alone.
+#[test]
+fn boxes_that_are_handed_in_are_called(rt: HostRuntime) -> Result<(), Fail> {
+    let alloc = rt.alloc();
+    let mut files = MemFiles::new(alloc);
+    files.add("a.toml", file(alloc, 1, 4, 4, "")?.as_bytes())?;
+    files.add("a.bin", SENDS)?;
+    let clint_calls = Rc::new(alloc, Cell::new(0))?;
+    let uart_calls = Rc::new(alloc, Cell::new(0))?;
+    let clint: Box<dyn Device> = Box::new(
+        alloc,
+        Counting::new(Clint::new(alloc), clint_calls.clone()?),
+    )?;
+    let uart: Box<dyn Device> = Box::new(
+        alloc,
+        Counting::new(Uart::new(alloc), uart_calls.clone()?),
+    )?;
+    let mut clints = Vec::new(alloc);
+    let mut uarts = Vec::new(alloc);
+    add(&mut clints, clint, &DevConfig::Clint)?;
+    add(&mut uarts, uart, &DevConfig::Uart)?;
+    let words = owned(
+        alloc,
+        &["run", "a.toml", "--host-ticks", "2", "--view", "journal"],
+    )?;
+    let mut out = room(alloc)?;
+    let mut msg = room(alloc)?;
+    let stock = Stock { clints, uarts };
+    let status = diecast(alloc, &words, &mut files, &mut out, &mut msg, stock);
+    assert_eq!(rt; code_of(&status), 0);
+    assert_eq!(rt; clint_calls.get(), 322);
+    assert_eq!(rt; uart_calls.get(), 10_322);
     Ok(())
 }
