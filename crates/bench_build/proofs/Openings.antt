@@ -10,8 +10,6 @@ use Rattle.exp_file.specs.declared.link_spec.LinkSpec.{LinkSpec}
 use Rattle.exp_file.specs.WellFormed.{IsGuest, IsSlot}
 use Rattle.guest_machine.specs.Tick.{MachineState}
 use Rattle.guest_machine.specs.Opening.{opening}
-use Rattle.guest_machine.specs.MachineView.{machine_state}
-use Rattle.guest_machine.specs.declared.machine.Machine.{Machine}
 use Rattle.bench_build.specs.declared.shape.Shape.{Shape}
 use Rattle.bench_build.specs.declared.loaded.Loaded.{Loaded}
 use Rattle.bench_build.specs.Answers.{LoadedAnswers, ImageAnswers}

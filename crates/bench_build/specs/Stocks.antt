@@ -2,7 +2,7 @@
 use Rattle.std.specs.Prelude.{◌≡◌, ℕ, ◌<◌, ◌≤◌}
 use Rattle.dev_face.specs.declared.kind.Kind.TheVariants as kind
 use Rattle.bench_build.specs.declared.build_fault.BuildFault.{BuildFault}
-use Rattle.bench_build.specs.declared.build_fault.BuildFault.TheVariants.{Image, NoDevice, NoMemory}
+use Rattle.bench_build.specs.declared.build_fault.BuildFault.TheVariants.{NoDevice, NoMemory}
 
 -- so many Clints and Uarts are enough
 pub record Suffices (guests clints uarts : ℕ) : Type 0 where

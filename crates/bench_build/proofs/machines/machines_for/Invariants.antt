@@ -1,9 +1,8 @@
-use Rattle.std.proofs.Common.{◌≡◌, ℕ, ◌+◌, map, length, All}
+use Rattle.std.proofs.Common.{◌≡◌, ◌+◌, map, length, All}
 use Rattle.dev_face.specs.States.{IsBlankFor}
 use Rattle.dev_face.specs.declared.config.DevConfig.TheVariants as config
 use Rattle.lookahead_core.specs.Motion.{Idle}
 use Rattle.guest_machine.specs.MachineView.{machine_state, machine_clock}
-use Rattle.guest_machine.specs.declared.machine.Machine.{Machine}
 use Rattle.bench_build.specs.Openings.{openings}
 use Rattle.bench_build.proofs.machines.machines_for.Given as goal
 
