@@ -73,9 +73,9 @@ abbrev pub text_in : (List ℕ → Bool) → Option Data → Result (Option (Lis
 text_in form None = Ok None
 text_in form (Some d) = text_of form (as_str d)
 
--- a byte of a guest's name
+-- a byte of a guest's name: a to z, 0 to 9, _ or -
 abbrev pub is_name_byte : ℕ → Bool
-is_name_byte b = nat_le 97 b && nat_le b 122 || nat_le 48 b && nat_le b 57 || b == 95 || b == 45
+is_name_byte b = nat_le 0x61 b && nat_le b 0x7a || nat_le 0x30 b && nat_le b 0x39 || b == 0x5f || b == 0x2d
 
 -- a byte that a file's name may have
 abbrev pub is_not_zero : ℕ → Bool

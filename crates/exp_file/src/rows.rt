@@ -56,7 +56,7 @@ fn number_at(table: &Table, key: &str, low: u64, high: u64) -> Result<Option<u64
 fn is_name_byte(b: u8) -> bool
     ensures { result ≡ is_name_byte b }
 {
-    97 <= b && b <= 122 || 48 <= b && b <= 57 || b == 95 || b == 45
+    b.is_ascii_lowercase() || b.is_ascii_digit() || b == b'_' || b == b'-'
 }
 
 fn are_name_bytes(t: &[u8]) -> bool
