@@ -145,6 +145,3 @@ pub fn sext16(a: u32) -> u32
     let low = a % 0x1_0000;
     if low < 0x8000 { low } else { low + 0xffff_0000 }
 }
-
-#[cfg(test)]
-mod tests;
