@@ -1,7 +1,7 @@
 -- The table of control and status registers (RISC-V privileged manual, chapter "Machine-Level ISA").
 -- Which registers there are, and which bits are fixed, is this machine's choice among what the manual
 -- allows.
-use Rattle.std.specs.Prelude.{ℕ, ◌+◌, ◌*◌, ◌-◌, ◌/◌, ◌%◌, ◌^◌, nat_le, ◌==◌, ◌&&◌, ◌||◌, if◌then◌else◌, Bool, Option, Some, None, bit_and}
+use Rattle.std.specs.Prelude.{ℕ, ◌+◌, ◌*◌, ◌/◌, ◌%◌, ◌^◌, nat_le, ◌==◌, ◌&&◌, ◌||◌, if◌then◌else◌, Bool, Option, Some, None, bit_and}
 use Rattle.csr_file.specs.declared.lines.Lines.{Lines}
 use Rattle.csr_file.specs.declared.view.CsrView.{CsrView}
 use Rattle.csr_file.specs.Csrs.{Csrs, bit_of}

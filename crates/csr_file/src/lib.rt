@@ -8,6 +8,3 @@ mod view;
 pub use file::CsrFile;
 pub use lines::Lines;
 pub use view::CsrView;
-
-#[cfg(test)]
-mod tests;

@@ -1,9 +1,7 @@
 -- The fields that are read from a word are those that it was made of.
 use Rattle.std.proofs.Common.{◌≡◌, ℕ, ◌<◌, ◌+◌, ◌*◌, ◌/◌, ◌%◌, ◌^◌, ℤ, pos, negsuc, ◌∙◌, ap, arith}
-use Rattle.std.proofs.Math.Facts.{Fits-of_z}
-use Rattle.std.proofs.lemmas.Int.{ints, to_z-of_z}
+use Rattle.std.proofs.lemmas.Int.{ints}
 use Rattle.std.specs.Int.{w32, cast_unsigned, cast_signed}
-use mir.Val.{SFits}
 use Rattle.rv_word.specs.Ranges.{IsSigned, IsMultiple}
 use Rattle.rv_word.specs.Fields.{rd_of, rs1_of, rs2_of, sign_extend, imm_i, imm_s, imm_b, imm_u, imm_j}
 use Rattle.guest_asm.specs.Layout.{word_of, r_word, branch_high, branch_low, jump_bits}
@@ -88,13 +86,18 @@ branch_same w imm e f s m =
     let same : w / 2 ^ 31 * 0x1000 + w / 2 ^ 7 % 2 * 0x800 + w / 2 ^ 25 % 64 * 32 + w / 2 ^ 8 % 16 * 2 ≡ cast_unsigned w32 imm % 2 ^ 13 = omega arith in
     rw same (extended_13 imm s)
 
-pub upper_short : (imm : ℤ) → SFits w32 imm → cast_unsigned w32 imm / 2 ^ 12 < 2 ^ 20
-upper_short imm fits = omega (arith, Fits-of_z fits)
+extended_32 : (imm : ℤ) → IsSigned 0x80000000 imm → cast_signed w32 (cast_unsigned w32 imm) ≡ imm
+extended_32 (pos n) s = grind (arith, ints)
+extended_32 (negsuc n) s = grind (arith, ints)
 
-pub upper_same : (w : ℕ) (imm : ℤ) → w / 2 ^ 12 ≡ cast_unsigned w32 imm / 2 ^ 12 → SFits w32 imm → IsMultiple 4096 imm → imm_u w ≡ imm
-upper_same w imm e fits m =
+pub upper_short : (imm : ℤ) → IsSigned 0x80000000 imm → cast_unsigned w32 imm / 2 ^ 12 < 2 ^ 20
+upper_short (pos n) s = grind (arith, ints)
+upper_short (negsuc n) s = grind (arith, ints)
+
+pub upper_same : (w : ℕ) (imm : ℤ) → w / 2 ^ 12 ≡ cast_unsigned w32 imm / 2 ^ 12 → IsSigned 0x80000000 imm → IsMultiple 4096 imm → imm_u w ≡ imm
+upper_same w imm e s m =
     let same : w / 2 ^ 12 * 0x1000 ≡ cast_unsigned w32 imm = omega arith in
-    ap (cast_signed w32) same ∙ to_z-of_z w32 imm fits
+    ap (cast_signed w32) same ∙ extended_32 imm s
 
 pub jump_short : (imm : ℤ) → jump_bits (cast_unsigned w32 imm) < 2 ^ 20
 jump_short imm = omega arith

@@ -1,5 +1,6 @@
 -- The word of each instruction. The operand bits of the fences are zero.
 use Rattle.std.specs.Prelude.{ℕ}
+use Rattle.rv_word.specs.Ranges.{IsSigned}
 use Rattle.rv_word.specs.declared.op.Op.{Op}
 use Rattle.rv_word.specs.declared.op.Op.TheVariants as op
 use Rattle.guest_asm.specs.Layout.{word_of, r_word, i_word, s_word, b_word, u_word, j_word}
@@ -62,3 +63,9 @@ op_word op.Ecall = 0x00000073
 op_word op.Ebreak = 0x00100073
 op_word op.Mret = 0x30200073
 op_word op.Wfi = 0x10500073
+
+-- an immediate of format U is a signed number of 32 bits, as the field that holds it
+abbrev pub IsSignedWord : Op → Type 0
+IsSignedWord (op.Lui rd imm) = IsSigned 0x80000000 imm
+IsSignedWord (op.Auipc rd imm) = IsSigned 0x80000000 imm
+IsSignedWord o = Unit {0}

@@ -1,6 +1,6 @@
 //! From instructions to words.
 ghost use Rattle.std.specs.Prelude.{◌≡◌, Some};
-ghost use Rattle.guest_asm.specs.OpWord.{op_word};
+ghost use Rattle.guest_asm.specs.OpWord.{IsSignedWord, op_word};
 ghost use Rattle.rv_word.specs.Ranges.{IsInRange};
 ghost use Rattle.rv_word.specs.Table.{search, table};
 
@@ -12,6 +12,15 @@ pub fn encode(op: &Op) -> u32
     requires { IsInRange op.now }
     ensures word { result ≡ op_word op.now }
     ensures decoded { search table result ≡ Some op.now }
+{
+    lay_out(op)
+}
+
+/// The word, laid out by the format of the instruction.
+fn lay_out(op: &Op) -> u32
+    requires { IsInRange op.now }
+    ensures word { result ≡ op_word op.now }
+    ensures signed { IsSignedWord op.now }
 {
     match *op {
         Op::Lui { rd, imm } => upper(imm, rd, 0x37),

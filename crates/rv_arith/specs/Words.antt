@@ -1,7 +1,7 @@
 -- Arithmetic on words of 32 bits (RISC-V unprivileged manual, section "Integer Computational
 -- Instructions" and chapter "M"). A word is a number below 2 ^ 32, and `signed` is its value as a signed
 -- number in two's complement.
-use Rattle.std.specs.Prelude.{ℕ, ◌+◌, ◌*◌, ◌-◌, ◌/◌, ◌%◌, ◌^◌, nat_lt, ◌==◌, ◌&&◌, if◌then◌else◌, Bool, ℤ, pos, ◌*ℤ◌, int_lt}
+use Rattle.std.specs.Prelude.{ℕ, ◌+◌, ◌*◌, ◌/◌, ◌%◌, ◌^◌, nat_lt, ◌==◌, ◌&&◌, if◌then◌else◌, Bool, ℤ, pos, ◌*ℤ◌, int_lt}
 use Rattle.std.specs.Int.{w32, cast_signed, cast_unsigned, int_shr}
 use Rattle.std.specs.Int.RustNames.{int_div, int_rem}
 

@@ -1,9 +1,10 @@
 //! Arithmetic of RV32IM on words of 32 bits.
 #![tactic(auto)]
 
-ghost use Rattle.std.specs.Prelude.{◌≡◌, ◌*ℤ◌, ◌+◌, ◌*◌, ◌-◌, ◌/◌, ◌<◌, ◌≤◌, ◌^◌, ◌%◌};
+ghost use Rattle.std.specs.Prelude.{pos, negsuc, ◌≡◌, ◌≢◌, ◌⊎◌, ◌*ℤ◌, ◌+◌, ◌*◌, ◌-◌, ◌/◌, ◌<◌, ◌≤◌, ◌^◌, ◌%◌};
 ghost use Rattle.rv_arith.specs.Words.{word_sll, word_srl, word_sra, word_slt, word_sltu, word_mulh, word_mulhsu, word_mulhu, word_div, word_divu, word_rem, word_remu, word_sext8, word_sext16, word_of, overflows};
 ghost use Rattle.std.specs.Int.{int_shr};
+ghost use Rattle.std.specs.Int.RustNames.{int_div, int_rem};
 
 /// Shifts left by the low five bits of `b`.
 pub fn sll(a: u32, b: u32) -> u32
@@ -61,6 +62,13 @@ fn signed_product(a: i32, b: i32) -> i64
     i64::from(a) * i64::from(b)
 }
 
+/// A product, the first signed and the second unsigned.
+fn mixed_product(a: i32, b: u32) -> i64
+    ensures { result ≡ a *ℤ pos b }
+{
+    i64::from(a) * i64::from(b)
+}
+
 /// The least word divided by -1.
 fn overflows(a: u32, b: u32) -> bool
     ensures { result ≡ overflows a b }
@@ -79,7 +87,7 @@ pub fn mulh(a: u32, b: u32) -> u32
 pub fn mulhsu(a: u32, b: u32) -> u32
     ensures { result ≡ word_mulhsu a b }
 {
-    high(i64::from(a.cast_signed()) * i64::from(b))
+    high(mixed_product(a.cast_signed(), b))
 }
 
 /// The high word of the product, both unsigned.
@@ -88,6 +96,24 @@ pub fn mulhu(a: u32, b: u32) -> u32
 {
     let product = u64::from(a) * u64::from(b);
     (product >> 32) as u32
+}
+
+/// A quotient that is not by 0, and not of the least number by -1.
+fn quotient(a: i32, b: i32) -> i32
+    requires nonzero { b ≢ pos 0 }
+    requires fits { a ≢ negsuc (2 ^ 31 - 1) ⊎ b ≢ negsuc 0 }
+    ensures { result ≡ int_div a b }
+{
+    a / b
+}
+
+/// The remainder of such a quotient.
+fn remainder(a: i32, b: i32) -> i32
+    requires nonzero { b ≢ pos 0 }
+    requires fits { a ≢ negsuc (2 ^ 31 - 1) ⊎ b ≢ negsuc 0 }
+    ensures { result ≡ int_rem a b }
+{
+    a % b
 }
 
 /// The signed quotient, towards zero. All ones where `b` is 0, and `a` where it overflows.
@@ -99,7 +125,7 @@ pub fn div(a: u32, b: u32) -> u32
     } else if overflows(a, b) {
         0x8000_0000
     } else {
-        (a.cast_signed() / b.cast_signed()).cast_unsigned()
+        quotient(a.cast_signed(), b.cast_signed()).cast_unsigned()
     }
 }
 
@@ -119,7 +145,7 @@ pub fn rem(a: u32, b: u32) -> u32
     } else if overflows(a, b) {
         0
     } else {
-        (a.cast_signed() % b.cast_signed()).cast_unsigned()
+        remainder(a.cast_signed(), b.cast_signed()).cast_unsigned()
     }
 }
 
@@ -145,6 +171,3 @@ pub fn sext16(a: u32) -> u32
     let low = a % 0x1_0000;
     if low < 0x8000 { low } else { low + 0xffff_0000 }
 }
-
-#[cfg(test)]
-mod tests;

@@ -50,6 +50,15 @@ impl Hart {
         !stopped && (!self.waiting || self.csrs.wakes(lines))
     }
 
+    /// Makes idle steps all at once: the count of steps grows, and nothing else changes.
+    pub fn pass_idle(&mut self, steps: u64)
+        ensures passed { self.new ≡ record self.old { steps = (self.old.steps + steps) % 2 ^ 64 } }
+        // as a count of 64 bits, so that to pass no steps changes nothing
+        ensures within { self.old.steps < 2 ^ 64 }
+    {
+        self.steps = self.steps.wrapping_add(steps);
+    }
+
     /// A register, of which x0 reads 0.
     pub fn reg(&self, i: u32) -> u32
         requires { i < 32 }

@@ -12,7 +12,8 @@ impl Hart {
     /// Puts a value into a register and goes on to the next instruction.
     pub(crate) fn put_value(&mut self, rd: u32, value: u32) -> Result<(), Exception>
         requires { rd < 32 }
-        ensures { outcome_of result self.new ≡ value_done self.old rd value }
+        ensures outcome { outcome_of result self.new ≡ value_done self.old rd value }
+        ensures kept { OnErr result (self.new ≡ self.old) }
     {
         if rd != 0 {
             self.regs[rd as usize] = value;
@@ -23,7 +24,8 @@ impl Hart {
 
     /// Goes on to the next instruction.
     pub(crate) fn go_on(&mut self) -> Result<(), Exception>
-        ensures { outcome_of result self.new ≡ Done (onward self.old) }
+        ensures outcome { outcome_of result self.new ≡ Done (onward self.old) }
+        ensures kept { OnErr result (self.new ≡ self.old) }
     {
         self.pc = self.pc.wrapping_add(4);
         Ok(())
@@ -73,7 +75,8 @@ impl Hart {
 
     /// Does MRET.
     pub(crate) fn leave_trap(&mut self) -> Result<(), Exception>
-        ensures { outcome_of result self.new ≡ Done (record self.old { csrs = mret_csrs self.old.csrs; pc = self.old.csrs.mepc }) }
+        ensures outcome { outcome_of result self.new ≡ Done (record self.old { csrs = mret_csrs self.old.csrs; pc = self.old.csrs.mepc }) }
+        ensures kept { OnErr result (self.new ≡ self.old) }
     {
         self.pc = self.csrs.mret();
         Ok(())
@@ -81,7 +84,8 @@ impl Hart {
 
     /// Does WFI.
     pub(crate) fn wait(&mut self) -> Result<(), Exception>
-        ensures { outcome_of result self.new ≡ Done (record self.old { waiting = true; pc = (self.old.pc + 4) % 2 ^ 32 }) }
+        ensures outcome { outcome_of result self.new ≡ Done (record self.old { waiting = true; pc = (self.old.pc + 4) % 2 ^ 32 }) }
+        ensures kept { OnErr result (self.new ≡ self.old) }
     {
         self.waiting = true;
         self.pc = self.pc.wrapping_add(4);

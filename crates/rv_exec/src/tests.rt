@@ -1,5 +1,6 @@
-//! One step of each instruction with operands at the edges, with the answers of qemu-system-riscv32 7.2; the
-//! values in mtval of traps, and waits and interrupts, by hand from the privileged manual.
+//! One step of each instruction with operands at the edges, with the answers of qemu-system-riscv32 7.2, which
+//! tries the decoder, the arithmetic and the registers too; the values in mtval of traps, and waits and interrupts,
+//! by hand from the privileged manual.
 ghost use Rattle.std.specs.Prelude.{List, ℕ, Bool, false};
 ghost use Rattle.guest_ram.specs.Bytes.{ram_load, place_of, at_place, bytes_after};
 ghost use Rattle.tb_base.specs.declared.width.Width.TheVariants.{Word};
@@ -222,41 +223,52 @@ fn bus_with(ram: Ram) -> RamBus {
     }
 }
 
+/// Whether the instruction of a row is done, and leaves what the row says.
+fn is_done(bus: &mut RamBus, row: [u32; 7]) -> bool {
+    let [word, x1, x2, pc, x3, data, scratch] = row;
+    let mut hart = hart_at_slot(x1, x2);
+    bus.ram.store(SLOT, Width::Word, word).is_ok()
+        && bus.ram.store(DATA, Width::Word, 0x8697_a4b5).is_ok()
+        && hart.step(bus) == Stepped::Retired { pc: SLOT, word }
+        && hart.pc() == pc
+        && hart.reg(3) == x3
+        && bus.ram.load(DATA, Width::Word) == Ok(data)
+        && hart.csrs.read(0x340, &VIEW) == Some(scratch)
+}
+
+/// Whether the instruction of a row traps, with the cause and the value of the row.
+fn is_trapped(bus: &mut RamBus, row: [u32; 5]) -> bool {
+    let [word, x1, x2, cause, value] = row;
+    let mut hart = hart_at_slot(x1, x2);
+    bus.ram.store(SLOT, Width::Word, word).is_ok()
+        && hart.step(bus) == Stepped::Trapped { cause, pc: SLOT }
+        && hart.reg(3) == 0x5a5a_5a5a
+        && hart.csrs.read(0x343, &VIEW) == Some(value)
+        && hart.csrs.read(0x341, &VIEW) == Some(SLOT)
+}
+
 #[test]
 fn instructions_do_as_on_qemu(rt: HostRuntime) {
     let Ok(ram) = Ram::new(rt.alloc(), 4096) else {
         panic!(rt; "no memory");
     };
     let mut bus = bus_with(ram);
-    for [word, x1, x2, pc, x3, data, scratch] in WORDS_DONE {
-        assert!(rt; bus.ram.store(SLOT, Width::Word, word).is_ok());
-        assert!(rt; bus.ram.store(DATA, Width::Word, 0x8697_a4b5).is_ok());
-        let mut hart = hart_at_slot(x1, x2);
-        let stepped = hart.step(&mut bus);
-        assert!(rt;
-            stepped == Stepped::Retired { pc: SLOT, word },
-            "at {word:x}"
-        );
-        assert!(rt; hart.pc() == pc && hart.reg(0) == 0, "at {word:x}");
-        assert!(rt; hart.reg(3) == x3, "at {word:x}");
-        assert!(rt; bus.ram.load(DATA, Width::Word) == Ok(data), "at {word:x}");
-        assert!(rt;
-            hart.csrs.read(0x340, &VIEW) == Some(scratch),
-            "at {word:x}"
-        );
+    for row in WORDS_DONE {
+        assert!(rt; is_done(&mut bus, row), "at {:x}", row[0]);
     }
-    for [word, x1, x2, cause, value] in WORDS_TRAPPED {
-        assert!(rt; bus.ram.store(SLOT, Width::Word, word).is_ok());
-        let mut hart = hart_at_slot(x1, x2);
-        let stepped = hart.step(&mut bus);
-        assert!(rt;
-            stepped == Stepped::Trapped { cause, pc: SLOT },
-            "at {word:x}"
-        );
-        assert!(rt; hart.reg(3) == 0x5a5a_5a5a, "at {word:x}");
-        assert!(rt; hart.csrs.read(0x343, &VIEW) == Some(value), "at {word:x}");
-        assert!(rt; hart.csrs.read(0x341, &VIEW) == Some(SLOT), "at {word:x}");
+    for row in WORDS_TRAPPED {
+        assert!(rt; is_trapped(&mut bus, row), "at {:x}", row[0]);
     }
+}
+
+/// A step.
+fn next(hart: &mut Hart, bus: &mut RamBus) -> Stepped {
+    hart.step(bus)
+}
+
+/// Writes a register of the hart.
+fn write(hart: &mut Hart, addr: u32, value: u32) -> bool {
+    hart.csrs.write(addr, value)
 }
 
 #[test]
@@ -265,40 +277,68 @@ fn a_wait_ends_at_an_enabled_line(rt: HostRuntime) {
         panic!(rt; "no memory");
     };
     let mut bus = bus_with(ram);
-    assert!(rt; bus.ram.store(SLOT, Width::Word, 0x1050_0073).is_ok());
-    assert!(rt; bus.ram.store(SLOT + 4, Width::Word, 0x3020_0073).is_ok());
+    let (wfi, mret) = (0x1050_0073, 0x3020_0073);
+    assert!(rt; bus.ram.store(SLOT, Width::Word, wfi).is_ok());
+    assert!(rt; bus.ram.store(SLOT + 4, Width::Word, mret).is_ok());
     let mut hart = hart_at_slot(0, 0);
+    let first = next(&mut hart, &mut bus);
     assert!(rt;
-        hart.step(&mut bus)
+        first
             == Stepped::Retired {
                 pc: SLOT,
-                word: 0x1050_0073
+                word: wfi
             }
     );
     bus.timer = true;
-    assert!(rt; hart.step(&mut bus) == Stepped::Idle);
-    assert!(rt; hart.csrs.write(0x304, 0x80));
+    assert!(rt; next(&mut hart, &mut bus) == Stepped::Idle);
+    assert!(rt; write(&mut hart, 0x304, 0x80));
     bus.stopped = true;
-    assert!(rt; hart.step(&mut bus) == Stepped::Idle);
+    assert!(rt; next(&mut hart, &mut bus) == Stepped::Idle);
     bus.stopped = false;
-    let _ = hart.csrs.write(0x341, 0x8000_0c02);
-    let _ = hart.csrs.write(0x300, 0x80);
+    assert!(rt; write(&mut hart, 0x341, 0x8000_0c02) && write(&mut hart, 0x300, 0x80));
+    let left = next(&mut hart, &mut bus);
     assert!(rt;
-        hart.step(&mut bus)
-            == Stepped::Retired {
-                pc: SLOT + 4,
-                word: 0x3020_0073
-            }
+        left == Stepped::Retired {
+            pc: SLOT + 4,
+            word: mret
+        }
     );
-    assert!(rt; hart.pc() == SLOT);
+    let taken = next(&mut hart, &mut bus);
     assert!(rt;
-        hart.step(&mut bus)
+        taken
             == Stepped::Trapped {
                 cause: 0x8000_0007,
                 pc: SLOT
             }
     );
-    assert!(rt; hart.pc() == 0);
-    assert!(rt; hart.step(&mut bus) == Stepped::Trapped { cause: 1, pc: 0 });
+    assert!(rt; next(&mut hart, &mut bus) == Stepped::Trapped { cause: 1, pc: 0 });
     assert!(rt; hart.steps == 6 && hart.retired == 2);
+}
+
+/// What is pending with the lines software, timer and external, and whether they end a wait.
+fn pending(hart: &Hart, [software, timer, external]: [bool; 3]) -> (Option<u32>, bool) {
+    let lines = Lines {
+        software,
+        timer,
+        external,
+    };
+    (hart.csrs.pending(lines), hart.csrs.wakes(lines))
+}
+
+#[test]
+fn interrupts_are_taken_in_order(rt: HostRuntime) {
+    let mut hart = Hart::new(SLOT);
+    assert!(rt; write(&mut hart, 0x304, 0x888));
+    for mie in [0, 8] {
+        assert!(rt; write(&mut hart, 0x300, mie));
+        for (lines, cause) in [
+            ([true, true, true], Some(0x8000_000b)),
+            ([true, true, false], Some(0x8000_0003)),
+            ([false, true, false], Some(0x8000_0007)),
+            ([false, false, false], None),
+        ] {
+            let taken = if mie == 8 { cause } else { None };
+            assert!(rt; pending(&hart, lines) == (taken, cause.is_some()));
+        }
+    }
 }

@@ -1,5 +1,5 @@
 -- The search of the table, by the word's fields.
-use Rattle.std.proofs.Common.{◌≡◌, ℕ, ◌<◌, ◌≤◌, ◌+◌, ◌*◌, ◌-◌, ◌/◌, ◌%◌, ◌^◌, Bool, true, false, ◌&&◌, nat_eq, nat_lt, ◌≢◌, eqb, cond, List, [], ◌∷◌, Option, Some, None, refl, sym, ◌∙◌, ap, arith, bit_and, IsTrue, ◌⊎◌, inl, inr, rules}
+use Rattle.std.proofs.Common.{◌≡◌, ℕ, ◌<◌, ◌+◌, ◌*◌, ◌/◌, ◌%◌, ◌^◌, Bool, true, false, nat_lt, ◌≢◌, eqb, cond, List, [], ◌∷◌, Option, Some, None, refl, sym, ◌∙◌, ap, arith, bit_and, ◌⊎◌, inl, inr}
 use Rattle.std.proofs.lemmas.Nat.{and_mask, and_block, field_of, shr_split, mod-mul-add, div-mul-add}
 use Rattle.std.proofs.lemmas.Bool.{false≢true}
 use Rattle.std.proofs.lemmas.Bool.Decides.{eqb_tells}
@@ -163,11 +163,3 @@ table_ok = refl
 
 pub found_at : (w op f3 f7 : ℕ) → w < 2 ^ 32 → w % 128 ≡ op → w / 2 ^ 12 % 8 ≡ f3 → w / 2 ^ 25 ≡ f7 → search table w ≡ found table op f3 f7 w
 found_at w op f3 f7 h a b c = search_is table w table_ok h ∙ rw (a, b, c) refl
-
-no_case : (a b : ℕ) → a ≢ b → ((eqb a b ≡ true) × (a ≡ b)) ⊎ ((eqb a b ≡ false) × (a ≢ b)) → eqb a b ≡ false
-no_case a b h (inl (p, q)) = absurd (h q)
-no_case a b h (inr (p, q)) = p
-
--- a test that fails
-pub eqb_no : (a b : ℕ) → a ≢ b → eqb a b ≡ false
-eqb_no a b h = no_case a b h (eqb_tells a b)

@@ -1,27 +1,32 @@
 //! The fields of an instruction word.
 ghost use Rattle.std.specs.Prelude.{◌≡◌, ◌*◌, ◌<◌, ◌≤◌, ◌^◌};
 ghost use Rattle.rv_word.specs.Fields.{rd_of, rs1_of, rs2_of, csr_of, imm_i, imm_s, imm_b, imm_u, imm_j, sign_extend};
+ghost use Rattle.rv_word.specs.Ranges.{IsRegister, IsSigned, IsMultiple};
 
 pub(crate) fn rd_of(word: u32) -> u32
-    ensures { result ≡ rd_of word }
+    ensures field { result ≡ rd_of word }
+    ensures range { IsRegister result }
 {
     (word >> 7) % 32
 }
 
 pub(crate) fn rs1_of(word: u32) -> u32
-    ensures { result ≡ rs1_of word }
+    ensures field { result ≡ rs1_of word }
+    ensures range { IsRegister result }
 {
     (word >> 15) % 32
 }
 
 pub(crate) fn rs2_of(word: u32) -> u32
-    ensures { result ≡ rs2_of word }
+    ensures field { result ≡ rs2_of word }
+    ensures range { IsRegister result }
 {
     (word >> 20) % 32
 }
 
 pub(crate) fn csr_of(word: u32) -> u32
-    ensures { result ≡ csr_of word }
+    ensures field { result ≡ csr_of word }
+    ensures range { result < 4096 }
 {
     word >> 20
 }
@@ -29,7 +34,8 @@ pub(crate) fn csr_of(word: u32) -> u32
 fn sign_extend(half: u32, value: u32) -> i32
     requires small { half ≤ 2 ^ 20 }
     requires fits { value < 2 * half }
-    ensures { result ≡ sign_extend half value }
+    ensures value { result ≡ sign_extend half value }
+    ensures range { IsSigned half result }
 {
     if value < half {
         value as i32
@@ -39,19 +45,23 @@ fn sign_extend(half: u32, value: u32) -> i32
 }
 
 pub(crate) fn imm_i(word: u32) -> i32
-    ensures { result ≡ imm_i word }
+    ensures field { result ≡ imm_i word }
+    ensures range { IsSigned 0x800 result }
 {
     sign_extend(0x800, word >> 20)
 }
 
 pub(crate) fn imm_s(word: u32) -> i32
-    ensures { result ≡ imm_s word }
+    ensures field { result ≡ imm_s word }
+    ensures range { IsSigned 0x800 result }
 {
     sign_extend(0x800, (word >> 25) * 32 + (word >> 7) % 32)
 }
 
 pub(crate) fn imm_b(word: u32) -> i32
-    ensures { result ≡ imm_b word }
+    ensures field { result ≡ imm_b word }
+    ensures range { IsSigned 0x1000 result }
+    ensures multiple { IsMultiple 2 result }
 {
     sign_extend(
         0x1000,
@@ -63,13 +73,16 @@ pub(crate) fn imm_b(word: u32) -> i32
 }
 
 pub(crate) fn imm_u(word: u32) -> i32
-    ensures { result ≡ imm_u word }
+    ensures field { result ≡ imm_u word }
+    ensures multiple { IsMultiple 4096 result }
 {
     ((word >> 12) * 0x1000).cast_signed()
 }
 
 pub(crate) fn imm_j(word: u32) -> i32
-    ensures { result ≡ imm_j word }
+    ensures field { result ≡ imm_j word }
+    ensures range { IsSigned 0x100000 result }
+    ensures multiple { IsMultiple 2 result }
 {
     sign_extend(
         0x10_0000,

@@ -9,6 +9,3 @@ mod op;
 pub use decoder::decode;
 pub use law::rows_are_apart;
 pub use op::Op;
-
-#[cfg(test)]
-mod tests;
