@@ -1,6 +1,6 @@
 //! What the base types answer with memory to spare.
-use crate::{Bytes, Frame, FrameErr, ItemList, Label, Name};
 use std::test::Fail;
+use tb_base::{Bytes, Frame, FrameErr, ItemList, Label, Name};
 
 #[test]
 fn frames_have_14_to_1514_bytes(rt: HostRuntime) -> Result<(), Fail> {
