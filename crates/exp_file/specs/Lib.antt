@@ -2,6 +2,7 @@ pub mod Rows
 pub mod Places
 pub mod RowOf
 pub mod Lists
+pub mod Arrays
 pub mod Tables
 pub mod Disks
 pub mod Links

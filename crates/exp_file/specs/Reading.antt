@@ -5,10 +5,11 @@ use Rattle.std.specs.Str.{is_utf8}
 use Rattle.toml.specs.Data.{Members}
 use Rattle.toml.specs.Parse.{parse_document}
 use Rattle.exp_file.specs.declared.exp_fault.ExpFault.{ExpFault}
-use Rattle.exp_file.specs.declared.exp_why.ExpWhy.TheVariants.{NotToml, NoSlot, NoGuest, NotBuilt}
+use Rattle.exp_file.specs.declared.exp_why.ExpWhy.TheVariants.{NotToml, NotBuilt}
 use Rattle.exp_file.specs.declared.section.Section.TheVariants.{Top}
 use Rattle.exp_file.specs.declared.experiment.Experiment.{Experiment}
-use Rattle.exp_file.specs.Rows.{◌>>=◌, Place, number, known, array, some_array}
+use Rattle.exp_file.specs.Rows.{◌>>=◌, Place, number, known}
+use Rattle.exp_file.specs.Arrays.{TopItems, arrays_of}
 use Rattle.exp_file.specs.Lists.{listed}
 use Rattle.exp_file.specs.Tables.{each, slot_step, guest_step}
 use Rattle.exp_file.specs.Disks.{disk_step}
@@ -21,21 +22,23 @@ is_built e = length e.disks.items == 0 && length e.links.items == 0 && list_all 
 unfoldable pub built : Experiment → Result Experiment ExpFault
 built e = if is_built e then Ok e else Err (record { why = NotBuilt; section = Top; index = 0; key = [] })
 
+-- the experiment that the arrays of its tables say
+unfoldable pub lists_of : ℕ → ℕ → TopItems → Result Experiment ExpFault
+lists_of version factor a = do
+  slots ← each slot_step [] a.slots
+  guests ← each (guest_step (length slots)) [] a.guests
+  disks ← each (disk_step guests) [] a.disks
+  links ← each (link_step guests) [] a.links
+  Ok (record { version = version; factor = factor; slots = listed slots; guests = listed guests; disks = listed disks; links = listed links })
+
 -- the experiment that a file's own table says
 unfoldable pub top_of : Place → Result Experiment ExpFault
 top_of p = do
   _ ← known p
   version ← number p (codes "version") 1 1
   factor ← number p (codes "factor") 1 1000
-  slot_items ← some_array p (codes "slot") 32 NoSlot
-  guest_items ← some_array p (codes "guest") 32 NoGuest
-  disk_items ← array p (codes "disk") 64
-  link_items ← array p (codes "link") 64
-  slots ← each slot_step [] slot_items
-  guests ← each (guest_step (length slots)) [] guest_items
-  disks ← each (disk_step guests) [] disk_items
-  links ← each (link_step guests) [] link_items
-  Ok (record { version = version; factor = factor; slots = listed slots; guests = listed guests; disks = listed disks; links = listed links })
+  a ← arrays_of p
+  lists_of version factor a
 
 -- the table that the bytes are, where they are a text
 abbrev pub document : List ℕ → Option Members

@@ -2,7 +2,7 @@
 use tb_base::Name;
 
 /// A disk as the experiment describes it. Its times are in ticks.
-#[derive(Debug, Drop)]
+#[derive(Drop)]
 pub struct DiskSpec {
     /// The guest that has it.
     pub guest: u32,

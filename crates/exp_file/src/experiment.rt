@@ -7,7 +7,7 @@ use tb_base::ItemList;
 
 /// An experiment: slots of a host, the guests that share them, their disks, and the links between
 /// their nics. Guests and slots are named by their places in these lists, counted from 0.
-#[derive(Debug, Drop)]
+#[derive(Drop)]
 pub struct Experiment {
     /// The version of the file's form: 1.
     pub version: u32,

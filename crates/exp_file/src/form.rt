@@ -1,7 +1,7 @@
 //! What a text has to be.
 
 /// The kinds of text that a file has.
-#[derive(Clone, Copy, Debug)]
+#[derive(Clone, Copy)]
 pub enum Form {
     /// 1 to 32 bytes of a-z, 0-9, `_` and `-`.
     GuestName,

@@ -11,7 +11,7 @@ pub enum Format {
 }
 
 /// A guest as the experiment describes it.
-#[derive(Debug, Drop)]
+#[derive(Drop)]
 pub struct GuestSpec {
     /// 1 to 32 bytes of a-z, 0-9, `_` and `-`.
     pub name: Name,

@@ -1,6 +1,7 @@
 //! Experiments, read from their files: what a file says, and the first fault of one that is refused.
 #![tactic(auto)]
 
+mod arrays;
 mod book;
 mod disk_spec;
 mod disks;
@@ -17,8 +18,6 @@ mod rows;
 mod section;
 mod slot_spec;
 mod slots;
-#[cfg(test)]
-mod tests;
 mod unknown;
 
 pub use disk_spec::DiskSpec;

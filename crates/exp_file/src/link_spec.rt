@@ -1,7 +1,7 @@
 //! A link between two nics.
 
 /// A link as the experiment describes it: a pipe each way, both with the same numbers.
-#[derive(Clone, Copy, Debug, PartialEq, Eq)]
+#[derive(Clone, Copy)]
 pub struct LinkSpec {
     /// The guest at one end.
     pub a: u32,

@@ -4,10 +4,12 @@ ghost use Rattle.std.specs.List.{list_all};
 ghost use Rattle.toml.specs.View.{table_view};
 ghost use Rattle.exp_file.specs.Lists.{Reads};
 ghost use Rattle.exp_file.specs.Places.{place};
-ghost use Rattle.exp_file.specs.Reading.{top_of, built, is_built, said, reading};
+ghost use Rattle.exp_file.specs.Arrays.{arrays_of, items_of, ArraysGive, AreSized};
+ghost use Rattle.exp_file.specs.Reading.{top_of, lists_of, built, is_built, said, reading};
 ghost use Rattle.exp_file.specs.declared.section.Section.TheVariants.{Top};
 ghost use Rattle.exp_file.specs.WellFormed.{IsWellFormed};
 
+use crate::arrays::{Arrays, read_arrays};
 use crate::disks::read_disks;
 use crate::exp_fault::{ExpErr, ExpFault};
 use crate::exp_why::ExpWhy;
@@ -20,7 +22,7 @@ use crate::section::Section;
 use crate::slots::read_slots;
 use std::alloc::Global;
 use tb_base::Label;
-use tb_base::limits::{DISKS, FACTOR, GUESTS, LINKS, SLOTS};
+use tb_base::limits::FACTOR;
 
 fn top_fault(why: ExpWhy) -> ExpErr
     ensures { result ≡ ExpErr.Fault (record { why = why; section = Top; index = 0; key = [] }) }
@@ -45,6 +47,34 @@ fn is_built(e: &Experiment) -> bool
     e.disks.is_empty() && e.links.is_empty() && are_built_guests(e.guests.as_slice())
 }
 
+/// The experiment that the arrays of its tables say.
+#[tactic(auto, unfolding(crate::specs::Reading::lists_of))]
+fn read_lists(
+    alloc: Global,
+    version: u32,
+    factor: u64,
+    arrays: &Arrays<'_>,
+) -> Result<Experiment, ExpErr>
+    requires version { version ≡ 1 }
+    requires factor { (1 ≤ factor) × (factor ≤ 1000) }
+    requires sized { AreSized arrays.now }
+    ensures given { Reads result (lists_of version factor (items_of arrays.now)) }
+    ensures well { IfOk result IsWellFormed }
+{
+    let slots = read_slots(alloc, arrays.slots)?;
+    let guests = read_guests(alloc, slots.len() as u32, arrays.guests)?;
+    let disks = read_disks(alloc, &guests, arrays.disks)?;
+    let links = read_links(alloc, &guests, arrays.links)?;
+    Ok(Experiment {
+        version,
+        factor,
+        slots,
+        guests: guests.into_list(),
+        disks,
+        links,
+    })
+}
+
 #[tactic(auto, unfolding(crate::specs::Reading::top_of))]
 fn read_top(alloc: Global, row: &Row<'_>) -> Result<Experiment, ExpErr>
     ensures given { Reads result (top_of (place row.now.section row.now.index row.now.table.now)) }
@@ -53,22 +83,8 @@ fn read_top(alloc: Global, row: &Row<'_>) -> Result<Experiment, ExpErr>
     row.known()?;
     let version = row.number("version", 1, 1)?;
     let factor = row.number("factor", 1, FACTOR)?;
-    let slot_values = row.some_array("slot", SLOTS, ExpWhy::NoSlot)?;
-    let guest_values = row.some_array("guest", GUESTS, ExpWhy::NoGuest)?;
-    let disk_values = row.array("disk", DISKS)?;
-    let link_values = row.array("link", LINKS)?;
-    let slots = read_slots(alloc, slot_values)?;
-    let guests = read_guests(alloc, slots.len() as u32, guest_values)?;
-    let disks = read_disks(alloc, &guests, disk_values)?;
-    let links = read_links(alloc, &guests, link_values)?;
-    Ok(Experiment {
-        version: version as u32,
-        factor,
-        slots,
-        guests: guests.into_list(),
-        disks,
-        links,
-    })
+    let arrays = read_arrays(row)?;
+    read_lists(alloc, version as u32, factor, &arrays)
 }
 
 #[tactic(auto, unfolding(crate::specs::Reading::said))]

@@ -9,8 +9,6 @@ mod placement;
 mod planner;
 mod seat;
 mod seats;
-#[cfg(test)]
-mod tests;
 
 pub use least::Least;
 pub use need::{check, least_factor, slot_have, slot_need};

@@ -1,7 +1,7 @@
 //! How full a slot is.
 
 /// What the guests placed so far need of a slot, and what it has, in units.
-#[derive(Clone, Copy, Debug)]
+#[derive(Clone, Copy)]
 pub struct Load {
     pub need: u64,
     pub have: u64,

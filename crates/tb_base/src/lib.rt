@@ -20,6 +20,3 @@ pub use name::Name;
 pub use no_memory::NoMemory;
 pub use why::Why;
 pub use width::Width;
-
-#[cfg(test)]
-mod tests;

@@ -12,6 +12,3 @@ pub use log::Log;
 pub use rec::Rec;
 pub use view::{View, shown};
 pub use what::What;
-
-#[cfg(test)]
-mod tests;

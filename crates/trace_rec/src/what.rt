@@ -3,7 +3,7 @@
 use tb_base::{Frame, Why};
 
 /// Something that happened in a tick of a guest.
-#[derive(Debug, Drop)]
+#[derive(Drop)]
 pub enum What {
     /// An instruction retired: its address and its word.
     Instr {

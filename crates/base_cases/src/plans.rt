@@ -1,6 +1,6 @@
 //! Plans of small experiments.
-use crate::{Least, Overload, check, least_factor, place, slot_need};
 use exp_file::read_experiment;
+use host_plan::{Least, Overload, check, least_factor, place, slot_need};
 use std::alloc::Global;
 
 /// An experiment, the homes of its guests, what the first slot needs, the answer of the check, and

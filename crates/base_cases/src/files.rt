@@ -1,25 +1,24 @@
 //! Files and what is said of them.
-use crate::guest_spec::Format;
-use crate::{ExpErr, ExpFault, Experiment, SlotSpec, read_experiment};
+use exp_file::{ExpErr, ExpFault, read_experiment};
 use std::alloc::Global;
 use std::test::Fail;
 
-/// A case a line: the parts that its file begins with, the rest of the file, with `;` for the end of a line, and
-/// the first fault: why, section, index and key.
+/// A case a line: the parts that its file begins with, by their letters, the last line of the file, and the
+/// first fault: why, section, index and key; or `Read` where the file is right.
 const CASES: &str = "\
 |version =|NotToml Top 0 \n\
 ||Missing Top 0 version\n\
-vsg|zone = 1;area = 1|Unknown Top 0 area\n\
-sg|version = 1;factor = 2;area = 1|Unknown Top 0 area\n\
+vsgz|area = 1|Unknown Top 0 area\n\
+vsg|area = 1|Unknown Top 0 area\n\
 |area = 1|Unknown Top 0 area\n\
 sg|factor = 2|Missing Top 0 version\n\
 sg|version = 1.0|WrongKind Top 0 version\n\
 sg|version = 0|Range Top 0 version\n\
 sg|version = 2|Range Top 0 version\n\
 sg|version = 1|Missing Top 0 factor\n\
-sg|version = 1;factor = true|WrongKind Top 0 factor\n\
-sg|version = 1;factor = 0|Range Top 0 factor\n\
-sg|version = 1;factor = 1001|Range Top 0 factor\n\
+nsg|factor = true|WrongKind Top 0 factor\n\
+nsg|factor = 0|Range Top 0 factor\n\
+nsg|factor = 1001|Range Top 0 factor\n\
 vg||NoSlot Top 0 slot\n\
 vg|slot = []|NoSlot Top 0 slot\n\
 vg|slot = {}|WrongKind Top 0 slot\n\
@@ -121,12 +120,17 @@ vsp|link = [{ a = 'a', b = 'b', bandwidth = 1, delay = 1, queue = 1 }, { a = 'a'
 vsg||NotBuilt Top 0 \n\
 vso|disk = [{ guest = 'a', sectors = 1, base = 1 }]|NotBuilt Top 0 \n\
 vsg|link = [{ a = 'a', b = 'a', b_nic = 1, bandwidth = 1, delay = 1, queue = 1 }]|NotBuilt Top 0 \n\
+vs|guest = [{ name = \"a\", image = \"a.bin\", format = \"flat\", ram = 4096, rate = 2, slot = 0 }]|Read\n\
+vs|guest = [{ name = \"a\", image = \"a.bin\", format = \"flat\", ram = 4096, rate = 2 }]|Read\n\
+vs|guest = [{ name = \"a\", image = \"a.bin\", ram = 4096, rate = 2, slot = 0 }]|Read\n\
 ";
 
-/// The line of a letter.
+/// The lines of a letter.
 fn part_of(letter: u8) -> &'static str {
     match letter {
+        b'n' => "version = 1\n",
         b'v' => "version = 1\nfactor = 2\n",
+        b'z' => "zone = 1\n",
         b's' => "slot = [{ capacity = 1 }]\n",
         b'g' => "guest = [{ name = 'a', image = 'a', rate = 1, nics = 2 }]\n",
         b'o' => "guest = [{ name = 'a', image = 'a', rate = 1 }]\n",
@@ -135,15 +139,12 @@ fn part_of(letter: u8) -> &'static str {
     }
 }
 
-fn file_of(alloc: Global, parts: &str, rest: &str) -> Result<String, Fail> {
+fn file_of(alloc: Global, parts: &str, last: &str) -> Result<String, Fail> {
     let mut text = String::new(alloc);
     for letter in parts.as_bytes() {
         text.push_str(part_of(*letter))?;
     }
-    for line in rest.split(';') {
-        text.push_str(line)?;
-        text.push_str("\n")?;
-    }
+    text.push_str(last)?;
     Ok(text)
 }
 
@@ -156,72 +157,27 @@ fn is_told(alloc: Global, fault: &ExpFault, told: &str) -> Result<bool, Fail> {
     })
 }
 
-fn is_refused(alloc: Global, case: &str) -> Result<bool, Fail> {
+/// Whether a case's file is read, or refused, as the case tells.
+fn is_right(alloc: Global, case: &str) -> Result<bool, Fail> {
     let Some((parts, rest)) = case.split_once('|') else {
         return Ok(false);
     };
-    let Some((rest, told)) = rest.split_once('|') else {
+    let Some((last, told)) = rest.split_once('|') else {
         return Ok(false);
     };
-    let text = file_of(alloc, parts, rest)?;
+    let text = file_of(alloc, parts, last)?;
     match read_experiment(alloc, text.as_bytes()) {
+        Ok(_) => Ok(told == "Read"),
         Err(ExpErr::Fault(fault)) => is_told(alloc, &fault, told),
-        _ => Ok(false),
+        Err(ExpErr::NoMemory) => Ok(false),
     }
 }
 
 #[test]
 fn tells_the_first_fault(rt: HostRuntime) -> Result<(), Fail> {
     for case in CASES.lines() {
-        let told = is_refused(rt.alloc(), case)?;
-        assert!(rt; told, "at {case}");
-    }
-    Ok(())
-}
-
-fn joined(alloc: Global, parts: &[&str]) -> Result<String, Fail> {
-    let mut text = String::new(alloc);
-    for part in parts {
-        text.push_str(part)?;
-    }
-    Ok(text)
-}
-
-const ONE_GUEST: &str = r#"version = 1
-factor = 2
-[[slot]]
-capacity = 1
-[[guest]]
-name = "a"
-image = "a.bin"
-format = "flat"
-ram = 4096
-rate = 2
-"#;
-
-fn is_one_guest(e: &Experiment, slot: Option<u32>) -> bool {
-    let [guest] = e.guests.as_slice() else {
-        return false;
-    };
-    e.factor == 2
-        && e.slots.as_slice() == [SlotSpec { capacity: 1 }].as_slice()
-        && guest.name.as_str() == "a"
-        && guest.image.as_str() == "a.bin"
-        && guest.format == Format::Flat
-        && guest.ram == 4096
-        && guest.rate == 2
-        && guest.slot == slot
-}
-
-#[test]
-fn reads_one_guest_with_and_without_a_slot(rt: HostRuntime) -> Result<(), Fail> {
-    for (last, slot) in [("slot = 0\n", Some(0)), ("", None)] {
-        let text = joined(rt.alloc(), &[ONE_GUEST, last])?;
-        let read = match read_experiment(rt.alloc(), text.as_bytes()) {
-            Ok(e) => is_one_guest(&e, slot),
-            Err(_) => false,
-        };
-        assert!(rt; read, "with {last}");
+        let right = is_right(rt.alloc(), case)?;
+        assert!(rt; right, "at {case}");
     }
     Ok(())
 }
