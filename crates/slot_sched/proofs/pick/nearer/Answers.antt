@@ -1,5 +1,5 @@
 -- One node more is looked at.
-use Rattle.std.proofs.Common.{◌≡◌, ℕ, ◌+◌, ◌<◌, ◌≤◌, true, false, List, Option, Some, None, sym, ◌∙◌, subst, arith, slice_index}
+use Rattle.std.proofs.Common.{◌≡◌, ℕ, ◌+◌, ◌<◌, ◌≤◌, true, false, List, Option, Some, sym, ◌∙◌, subst, arith, slice_index}
 use borrow.Author.Count.{below_more}
 use Rattle.lookahead_core.specs.CoreWords.{ticks_done, goes}
 use Rattle.lookahead_core.specs.declared.node.Node.{Ghosts}
