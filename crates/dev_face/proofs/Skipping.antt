@@ -1,9 +1,9 @@
 -- Ticks of a device that may be passed in one go, by kind: what they leave of it is the next tick alone.
-use Rattle.std.proofs.Common.{◌≡◌, ℕ, ◌+◌, ◌<◌, ◌≤◌, Bool, true, false, cond, Option, Some, None, List, [], refl, sym, ◌∙◌, ap, arith}
+use Rattle.std.proofs.Common.{◌≡◌, ℕ, ◌+◌, ◌<◌, ◌≤◌, Bool, true, false, cond, Some, None, List, [], refl, sym, ◌∙◌, arith}
 use Rattle.std.specs.Prelude.{IfSome, nat_le}
 use Rattle.std.proofs.lemmas.Bool.Decides.{nat_tests}
 use Rattle.dev_face.specs.States.{DevState, Blank, ClintAt, UartAt, IsSetUp, IsComing, coming_of, at_coming}
-use Rattle.dev_face.specs.Calls.{Begun, Ended, dev_begin, dev_end, dev_lines, dev_next, dev_end_idle}
+use Rattle.dev_face.specs.Calls.{dev_begin, dev_end, dev_lines, dev_next, dev_end_idle}
 
 pub at_again : (t u : ℕ) (d : DevState) → at_coming t (at_coming u d) ≡ at_coming t d
 at_again t u (Blank k) = refl
