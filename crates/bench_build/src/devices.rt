@@ -1,6 +1,6 @@
 //! The devices of a guest.
 ghost use Rattle.std.specs.Prelude.{◌≡◌, ℕ, ◌+◌, ◌∷◌, [], ◌≤◌, ◌<◌, ◌^◌, All, map, length, IfOk, IfErr, OnOk, MatchResult};
-ghost use Rattle.dev_face.specs.States.{IsBlankFor, opening};
+ghost use Rattle.dev_face.specs.States.{IsBlankFor, IsInLimits, opening};
 ghost use Rattle.dev_face.specs.declared.config.DevConfig.TheVariants as config;
 ghost use Rattle.guest_machine.specs.Opening.{opening_devices};
 ghost use Rattle.bench_build.specs.Stocks.{Suffices, IsShort};
@@ -40,6 +40,7 @@ pub(crate) fn check_stock(guests: usize, clints: usize, uarts: usize) -> Result<
 fn take_one<D: Device>(list: &mut Vec<D>, config: &DevConfig) -> Result<D, NoMemory>
     requires some { 1 ≤ length list.old.items }
     requires blank { All (IsBlankFor config.now) (map D.state list.old.items) }
+    requires limits { IsInLimits config.now }
     ensures rest { All (IsBlankFor config.now) (map D.state list.new.items) }
     ensures count { OnOk result (length list.old.items ≡ length list.new.items + 1) }
     ensures opened { IfOk result (λ d. D.state d ≡ opening config.now) }

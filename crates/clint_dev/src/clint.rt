@@ -157,4 +157,12 @@ impl Device for Clint {
             None
         }
     }
+
+    fn end_idle(&self) -> bool {
+        true
+    }
+
+    fn skip_to(&mut self, tick: u64) {
+        self.coming = tick;
+    }
 }

@@ -1,12 +1,12 @@
 -- What each call of a device does, by kind. RAM is a list of bytes, and a frame one too.
-use Rattle.std.specs.Prelude.{ℕ, ◌+◌, nat_le, if◌then◌else◌, false, Option, Some, None, List, []}
+use Rattle.std.specs.Prelude.{◌≡◌, ℕ, ◌+◌, ◌≤◌, nat_le, if◌then◌else◌, Bool, true, false, Option, Some, None, IfSome, List, []}
 use Rattle.tb_base.specs.declared.width.Width.{Width}
 use Rattle.tb_base.specs.declared.width.Width.TheVariants.{Byte, Half, Word}
 use Rattle.csr_file.specs.declared.lines.Lines.{Lines}
 use Rattle.trace_rec.specs.declared.rec.Rec.{Rec}
 use Rattle.dev_face.specs.declared.store_done.StoreDone.{StoreDone}
 use Rattle.dev_face.specs.declared.store_done.StoreDone.TheVariants as done
-use Rattle.dev_face.specs.States.{DevState, Blank, ClintAt, UartAt}
+use Rattle.dev_face.specs.States.{DevState, Blank, ClintAt, UartAt, IsSetUp, coming_of}
 use Rattle.dev_face.specs.ClintCalls.{clint_load, clint_after, clint_lines}
 use Rattle.dev_face.specs.UartCalls.{uart_load, uart_store}
 
@@ -27,6 +27,12 @@ dev_store (ClintAt s) now off Byte value = record { done = done.Fault; device = 
 dev_store (ClintAt s) now off Half value = record { done = done.Fault; device = ClintAt s }
 dev_store (ClintAt s) now off Word value = record { done = done.Done; device = ClintAt (clint_after s off value) }
 dev_store (UartAt s) now off width value = record { done = uart_store off width value; device = UartAt s }
+
+-- a store that is a fault leaves things as they were
+abbrev pub KeptOnFault : {A : Type 0} → StoreDone → A → A → Type 0
+KeptOnFault done.Fault old new = new ≡ old
+KeptOnFault done.Done old new = Unit {0}
+KeptOnFault (done.Byte b) old new = Unit {0}
 
 abbrev pub no_lines : Lines
 no_lines = record { software = false; timer = false; external = false }
@@ -67,3 +73,16 @@ abbrev pub dev_next : DevState → Option ℕ
 dev_next (Blank k) = None
 dev_next (ClintAt s) = if nat_le s.coming s.mtimecmp then Some s.mtimecmp else None
 dev_next (UartAt s) = None
+
+-- the end of a tick serves nothing, so that it changes nothing: a Clint and a Uart serve nothing then
+abbrev pub dev_end_idle : DevState → Bool
+dev_end_idle (Blank k) = true
+dev_end_idle (ClintAt s) = true
+dev_end_idle (UartAt s) = true
+
+-- the ticks up to this one may be passed in one go: it is the next tick or a later one, and nothing is to be done before it
+pub record MaySkip (tick : ℕ) (s : DevState) : Type 0 where
+  pub set_up : IsSetUp s
+  pub later : coming_of s ≤ tick
+  pub idle : dev_end_idle s ≡ true
+  pub due : IfSome (dev_next s) (λ due. tick ≤ due)

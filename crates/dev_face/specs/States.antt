@@ -41,10 +41,21 @@ coming_of (Blank k) = 0
 coming_of (ClintAt s) = s.coming
 coming_of (UartAt s) = s.coming
 
+-- the same device, with another next tick to begin
+abbrev pub at_coming : ℕ → DevState → DevState
+at_coming t (Blank k) = Blank k
+at_coming t (ClintAt s) = ClintAt (record s { coming = t })
+at_coming t (UartAt s) = UartAt (record { coming = t })
+
 -- what a configuration is for
 abbrev pub config_kind : DevConfig → Kind
 config_kind config.Clint = kind.Clint
 config_kind config.Uart = kind.Uart
+
+-- what a configuration may ask for: a Clint and a Uart ask for nothing
+abbrev pub IsInLimits : DevConfig → Type 0
+IsInLimits config.Clint = Unit {0}
+IsInLimits config.Uart = Unit {0}
 
 -- the device is blank, and the configuration is of its kind
 abbrev pub IsBlankFor : DevConfig → DevState → Type 0
@@ -55,15 +66,27 @@ abbrev pub opening : DevConfig → DevState
 opening config.Clint = ClintAt (record { coming = 0; msip = false; mtimecmp = 2 ^ 64 - 1 })
 opening config.Uart = UartAt (record { coming = 0 })
 
--- the device is set up, and this tick is the next that it begins
-abbrev pub IsComing : ℕ → DevState → Type 0
-IsComing now s = IsSetUp s × (coming_of s ≡ now)
+-- what the device has in flight lies in a RAM of n bytes: a Clint and a Uart have nothing in flight
+abbrev pub FliesIn : ℕ → DevState → Type 0
+FliesIn n (Blank k) = Unit {0}
+FliesIn n (ClintAt s) = Unit {0}
+FliesIn n (UartAt s) = Unit {0}
 
--- which frames may arrive at the device: none
+-- the device is set up, this tick is the next that it begins, and what it has in flight lies in a RAM of n bytes
+pub record IsComing (now n : ℕ) (s : DevState) : Type 0 where
+  pub set_up : IsSetUp s
+  pub next : coming_of s ≡ now
+  pub flies : FliesIn n s
+
+-- whether frames may arrive at the device
+abbrev pub takes_frames : DevState → Bool
+takes_frames (Blank k) = false
+takes_frames (ClintAt s) = false
+takes_frames (UartAt s) = false
+
+-- no frames arrive where none may
 abbrev pub MayArrive : DevState → List (List ℕ) → Type 0
-MayArrive (Blank k) frames = frames ≡ []
-MayArrive (ClintAt s) frames = frames ≡ []
-MayArrive (UartAt s) frames = frames ≡ []
+MayArrive s frames = takes_frames s ≡ false → frames ≡ []
 
 -- a list to which more was put at its end, if anything
 abbrev pub StaysInFront : {A : Type 0} → List A → List A → Type 0

@@ -1,8 +1,8 @@
 //! The interface of a device.
 ghost use Rattle.std.specs.Prelude.{◌≡◌, ℕ, ◌+◌, ◌%◌, ◌≤◌, ◌^◌, [], ◌++◌, length, OnOk, OnErr};
 ghost use Rattle.tb_base.specs.Widths.{width_bytes};
-ghost use Rattle.dev_face.specs.States.{DevState, kind_of, IsSetUp, IsBlankFor, IsComing, MayArrive, StaysInFront, opening};
-ghost use Rattle.dev_face.specs.Calls.{dev_load, dev_store, dev_lines, dev_begin, dev_end, dev_next};
+ghost use Rattle.dev_face.specs.States.{DevState, kind_of, at_coming, IsSetUp, IsBlankFor, IsInLimits, IsComing, MayArrive, StaysInFront, opening};
+ghost use Rattle.dev_face.specs.Calls.{dev_load, dev_store, KeptOnFault, dev_lines, dev_begin, dev_end, dev_next, dev_end_idle, MaySkip};
 
 use crate::config::DevConfig;
 use crate::kind::Kind;
@@ -28,7 +28,8 @@ pub trait Device: Drop {
 
     /// Sets up a blank device of the configuration's kind. A refusal leaves it blank.
     fn set_up(&mut self, config: &DevConfig) -> Result<(), NoMemory>
-        requires { IsBlankFor config.now (Self.state self.old) }
+        requires blank { IsBlankFor config.now (Self.state self.old) }
+        requires limits { IsInLimits config.now }
         ensures ok { OnOk result (Self.state self.new ≡ opening config.now) }
         ensures err { OnErr result (Self.state self.new ≡ Self.state self.old) };
 
@@ -45,7 +46,11 @@ pub trait Device: Drop {
         requires set_up { IsSetUp (Self.state self.old) }
         requires aligned { off % width_bytes width ≡ 0 }
         ensures answer { result ≡ (dev_store (Self.state self.old) now off width value).done }
-        ensures after { Self.state self.new ≡ (dev_store (Self.state self.old) now off width value).device };
+        ensures after { Self.state self.new ≡ (dev_store (Self.state self.old) now off width value).device }
+        ensures still { IsSetUp (Self.state self.new) }
+        ensures kind { kind_of (Self.state self.new) ≡ kind_of (Self.state self.old) }
+        ensures refused { KeptOnFault result (Self.state self.old) (Self.state self.new) }
+        ensures coming { (tick n : ℕ) → IsComing tick n (Self.state self.old) → IsComing tick n (Self.state self.new) };
 
     /// The interrupt lines that the device has up in the tick `now`. It takes no memory.
     fn lines(&self, now: u64) -> Lines
@@ -53,7 +58,7 @@ pub trait Device: Drop {
         ensures { result ≡ dev_lines (Self.state self.now) now };
 
     /// Begins its next tick, which is at most 2^40, with the frames that arrive. It takes them all
-    /// out of the list, and appends its records to the log.
+    /// out of the list, and appends its records to the log. What it has in flight lies in the RAM.
     fn begin_tick(
         &mut self,
         now: u64,
@@ -61,13 +66,14 @@ pub trait Device: Drop {
         frames: &mut ItemList<Frame>,
         log: &mut Log,
     ) -> Result<(), NoMemory>
-        requires coming { IsComing now (Self.state self.old) }
+        requires coming { IsComing now (length ram.old) (Self.state self.old) }
         requires early { now ≤ 2 ^ 40 }
         requires frames { MayArrive (Self.state self.old) frames.old.items }
         ensures state { OnOk result (Self.state self.new ≡ (dev_begin (Self.state self.old) now ram.old frames.old.items).device) }
         ensures ram { OnOk result (ram.new ≡ (dev_begin (Self.state self.old) now ram.old frames.old.items).ram) }
         ensures emptied { OnOk result (frames.new.items ≡ []) }
         ensures recs { OnOk result (log.new.items ≡ log.old.items ++ (dev_begin (Self.state self.old) now ram.old frames.old.items).recs) }
+        ensures coming { OnOk result (IsComing (now + 1) (length ram.new) (Self.state self.new)) }
         ensures still { IsSetUp (Self.state self.new) }
         ensures kind { kind_of (Self.state self.new) ≡ kind_of (Self.state self.old) }
         ensures size { length ram.new ≡ length ram.old }
@@ -82,11 +88,13 @@ pub trait Device: Drop {
         out: &mut ItemList<Frame>,
         log: &mut Log,
     ) -> Result<(), NoMemory>
-        requires begun { IsComing (now + 1) (Self.state self.old) }
+        requires begun { IsComing (now + 1) (length ram.old) (Self.state self.old) }
+        requires early { now ≤ 2 ^ 40 }
         ensures state { OnOk result (Self.state self.new ≡ (dev_end (Self.state self.old) now ram.old).device) }
         ensures ram { OnOk result (ram.new ≡ (dev_end (Self.state self.old) now ram.old).ram) }
         ensures frames { OnOk result (out.new.items ≡ out.old.items ++ (dev_end (Self.state self.old) now ram.old).frames) }
         ensures recs { OnOk result (log.new.items ≡ log.old.items ++ (dev_end (Self.state self.old) now ram.old).recs) }
+        ensures coming { OnOk result (IsComing (now + 1) (length ram.new) (Self.state self.new)) }
         ensures still { IsSetUp (Self.state self.new) }
         ensures kind { kind_of (Self.state self.new) ≡ kind_of (Self.state self.old) }
         ensures size { length ram.new ≡ length ram.old }
@@ -98,4 +106,16 @@ pub trait Device: Drop {
     fn next_due(&self) -> Option<u64>
         requires { IsSetUp (Self.state self.now) }
         ensures { result ≡ dev_next (Self.state self.now) };
+
+    /// Whether the end of a tick would serve nothing, and so change nothing. It takes no memory.
+    fn end_idle(&self) -> bool
+        requires { IsSetUp (Self.state self.now) }
+        ensures { result ≡ dev_end_idle (Self.state self.now) };
+
+    /// Passes the ticks up to this one, its next tick or a later one of at most 2^40 + 1, in one go:
+    /// the end of a tick serves nothing, and nothing is due before this one. It takes no memory.
+    fn skip_to(&mut self, tick: u64)
+        requires quiet { MaySkip tick (Self.state self.old) }
+        requires early { tick ≤ 2 ^ 40 + 1 }
+        ensures { Self.state self.new ≡ at_coming tick (Self.state self.old) };
 }

@@ -1,3 +1,3 @@
-pub mod ByKind
 pub mod Listed
+pub mod Skipped
 pub mod Walking

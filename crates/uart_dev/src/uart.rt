@@ -106,4 +106,12 @@ impl Device for Uart {
     fn next_due(&self) -> Option<u64> {
         None
     }
+
+    fn end_idle(&self) -> bool {
+        true
+    }
+
+    fn skip_to(&mut self, tick: u64) {
+        self.coming = tick;
+    }
 }

@@ -80,4 +80,12 @@ impl<D: Device> Device for Counting<D> {
     fn next_due(&self) -> Option<u64> {
         self.inner.next_due()
     }
+
+    fn end_idle(&self) -> bool {
+        self.inner.end_idle()
+    }
+
+    fn skip_to(&mut self, tick: u64) {
+        self.inner.skip_to(tick)
+    }
 }

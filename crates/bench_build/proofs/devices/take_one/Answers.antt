@@ -9,5 +9,5 @@ returns-in_err-set_up-in-Some-clause-rest g c = (popped g.D.Device.state (IsBlan
 pub returns-in_ok-set_up-in-Some-clause-rest : goal.returns-in_ok-set_up-in-Some-clause-rest
 returns-in_ok-set_up-in-Some-clause-rest g c = (popped g.D.Device.state (IsBlankFor c.args.config.now) c.args.list.now.items c.pop.new.self.items c.in-Some.device (search rules) c.requires.blank).0
 
-pub set_up-requires : goal.set_up-requires
-set_up-requires g c = (popped g.D.Device.state (IsBlankFor c.args.config.now) c.args.list.now.items c.pop.new.self.items c.in-Some.device (search rules) c.requires.blank).1
+pub set_up-requires-clause-blank : goal.set_up-requires-clause-blank
+set_up-requires-clause-blank g c = (popped g.D.Device.state (IsBlankFor c.args.config.now) c.args.list.now.items c.pop.new.self.items c.in-Some.device (search rules) c.requires.blank).1

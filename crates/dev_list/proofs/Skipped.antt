@@ -1,0 +1,137 @@
+-- Ticks of a list of devices that may be passed in one go.
+use Rattle.std.proofs.Common.{◌≡◌, ℕ, ◌+◌, ◌<◌, ◌≤◌, true, false, ◌&&◌, map, take, length, get_or, All, Option, Some, None, List, [], ◌∷◌, ◌++◌, refl, sym, ◌∙◌, ap, subst, arith}
+use Rattle.std.specs.Prelude.{IfSome}
+use Rattle.std.specs.List.{list_all}
+use Rattle.std.proofs.lemmas.Bool.{and_parts}
+use Rattle.std.proofs.lemmas.List.{length-map, take_more}
+use Rattle.std.proofs.lemmas.List.Folds.{list_all_more, list_all_at}
+use Rattle.std.proofs.lemmas.List.Elements.{All-head, All-tail, All-cons, All-nil}
+use Rattle.dev_face.specs.States.{DevState, IsSetUp, IsComing, at_coming}
+use Rattle.dev_face.specs.Calls.{Begun, Ended, MaySkip, dev_lines, dev_next, dev_end_idle}
+use Rattle.dev_face.proofs.Skipping.{at_again, at_own, skipped_set_up, skipped_coming, skipped_begin, skipped_end, skipped_lines}
+use Rattle.dev_list.specs.Walks.{walk, put_first, begin_one, begin_all, end_one, end_all, join_lines, all_lines, least_of, least_due}
+use Rattle.dev_list.proofs.Listed.{state_there}
+
+-- the least due tick of one device more
+least_swap : (o p : Option ℕ) (k : ℕ) → least_of o (least_of p k) ≡ least_of p (least_of o k)
+least_swap None p k = refl
+least_swap (Some a) None k = refl
+least_swap (Some a) (Some b) k = omega arith
+
+pub least_push : (limit : ℕ) (ss : List DevState) (s : DevState) → least_due limit (ss ++ s ∷ []) ≡ least_of (dev_next s) (least_due limit ss)
+unfolding least_due
+least_push limit [] s = refl
+least_push limit (x ∷ ss) s = ap (least_of (dev_next x)) (least_push limit ss s) ∙ least_swap (dev_next x) (dev_next s) (least_due limit ss)
+
+pub least_none : (limit : ℕ) → limit ≡ least_due limit []
+unfolding least_due
+least_none limit = refl
+
+pub least_at_most : (limit : ℕ) (ss : List DevState) → least_due limit ss ≤ limit
+unfolding least_due
+least_at_most limit [] = omega arith
+least_at_most limit (s ∷ ss) = at_most (dev_next s) (least_due limit ss) (least_at_most limit ss)
+  where
+    at_most : (o : Option ℕ) (k : ℕ) → k ≤ limit → least_of o k ≤ limit
+    at_most None k h = h
+    at_most (Some tick) k h = omega (arith, h)
+
+pub least_more : {B : Type 0} (f : B → DevState) (xs : List B) (i limit so least : ℕ) (x : B) (due : Option ℕ) → i < length xs → x ≡ get_or xs i x →
+    so ≡ least_due limit (take i (map f xs)) → due ≡ dev_next (f x) → least ≡ least_of due so → least ≡ least_due limit (take (i + 1) (map f xs))
+least_more f xs i limit so least x due h e es ed el =
+    let len : i < length (map f xs) = simp length-map h in
+    let grown : take (i + 1) (map f xs) ≡ take i (map f xs) ++ f x ∷ [] = take_more (map f xs) i (f x) len ∙ ap (λ s. take i (map f xs) ++ s ∷ []) (state_there f xs i x (f x) h e) in
+    el ∙ ap (least_of due) es ∙ ap (λ o. least_of o (least_due limit (take i (map f xs)))) ed ∙ sym (ap (least_due limit) grown ∙ least_push limit (take i (map f xs)) (f x))
+
+-- and whether one device more serves nothing
+pub idle_more : {B : Type 0} (f : B → DevState) (xs : List B) (i : ℕ) (x : B) → i < length xs → x ≡ get_or xs i x →
+    list_all dev_end_idle (take i (map f xs)) ≡ true → dev_end_idle (f x) ≡ true → list_all dev_end_idle (take (i + 1) (map f xs)) ≡ true
+idle_more f xs i x h e so idle =
+    let len : i < length (map f xs) = simp length-map h in
+    list_all_more dev_end_idle (map f xs) i (f x) len
+    ∙ ap (λ b. b && dev_end_idle (get_or (map f xs) i (f x))) so
+    ∙ ap dev_end_idle (state_there f xs i x (f x) h e) ∙ idle
+
+-- one that serves something
+pub idle_not : {B : Type 0} (f : B → DevState) (xs : List B) (i : ℕ) (x : B) → i < length xs → x ≡ get_or xs i x → dev_end_idle (f x) ≡ false → list_all dev_end_idle (map f xs) ≡ false
+idle_not f xs i x h e busy =
+    let len : i < length (map f xs) = simp length-map h in
+    list_all_at dev_end_idle (map f xs) i (f x) len (ap dev_end_idle (state_there f xs i x (f x) h e) ∙ busy)
+
+-- what is below the least is below each
+below : (t k : ℕ) (o : Option ℕ) → t < least_of o k → IfSome o (λ due. t < due) × (t < k)
+below t k None lt = (tt, lt)
+below t k (Some due) lt = (omega (arith, lt), omega (arith, lt))
+
+up_to : (t k : ℕ) (o : Option ℕ) → t ≤ least_of o k → IfSome o (λ due. t ≤ due) × (t ≤ k)
+up_to t k None le = (tt, le)
+up_to t k (Some due) le = (omega (arith, le), omega (arith, le))
+
+pub again_all : (t u : ℕ) (ss : List DevState) → map (at_coming t) (map (at_coming u) ss) ≡ map (at_coming t) ss
+again_all t u [] = refl
+again_all t u (s ∷ ss) = ap (λ e. e ∷ map (at_coming t) (map (at_coming u) ss)) (at_again t u s) ∙ ap (λ es. at_coming t s ∷ es) (again_all t u ss)
+
+pub own_all : (n size : ℕ) (ss : List DevState) → All (IsComing n size) ss → map (at_coming n) ss ≡ ss
+own_all n size [] all = refl
+own_all n size (s ∷ ss) all =
+    ap (λ e. e ∷ map (at_coming n) ss) (subst (λ t. at_coming t s ≡ s) (All-head (IsComing n size) s ss all).next (at_own s))
+    ∙ ap (λ es. s ∷ es) (own_all n size ss (All-tail (IsComing n size) s ss all))
+
+pub coming_all : (n t size : ℕ) (ss : List DevState) → All (IsComing n size) ss → All (IsComing t size) (map (at_coming t) ss)
+coming_all n t size [] all = All-nil (IsComing t size)
+coming_all n t size (s ∷ ss) all =
+    All-cons (IsComing t size) (at_coming t s) (map (at_coming t) ss) (skipped_coming n t size s (All-head (IsComing n size) s ss all)) (coming_all n t size ss (All-tail (IsComing n size) s ss all))
+
+pub set_up_all : (t : ℕ) (ss : List DevState) → All (MaySkip t) ss → All IsSetUp (map (at_coming t) ss)
+set_up_all t [] all = All-nil IsSetUp
+set_up_all t (s ∷ ss) all =
+    All-cons IsSetUp (at_coming t s) (map (at_coming t) ss) (skipped_set_up t s (All-head (MaySkip t) s ss all).set_up) (set_up_all t ss (All-tail (MaySkip t) s ss all))
+
+-- all may be passed up to the least tick that is due
+pub may_skip_all : (n t size limit : ℕ) (ss : List DevState) → All (IsComing n size) ss → n ≤ t → t ≤ least_due limit ss → list_all dev_end_idle ss ≡ true → All (MaySkip t) ss
+unfolding least_due
+may_skip_all n t size limit [] all le due idle = All-nil (MaySkip t)
+may_skip_all n t size limit (s ∷ ss) all le due idle =
+    let c : IsComing n size s = All-head (IsComing n size) s ss all in
+    let d : IfSome (dev_next s) (λ due. t ≤ due) × (t ≤ least_due limit ss) = up_to t (least_due limit ss) (dev_next s) due in
+    let i : (dev_end_idle s ≡ true) × (list_all dev_end_idle ss ≡ true) = and_parts (dev_end_idle s) (list_all dev_end_idle ss) idle in
+    All-cons (MaySkip t) s ss (record { set_up = c.set_up; later = omega (arith, c.next, le); idle = i.0; due = d.0 })
+    (may_skip_all n t size limit ss (All-tail (IsComing n size) s ss all) le d.1 i.1)
+
+-- a tick in which nothing is due begins, and only the next tick moves
+pub begun_all : (n t size limit : ℕ) (ram : List ℕ) (ss : List DevState) → All (IsComing n size) ss → n ≤ t → t < least_due limit ss →
+    begin_all (map (at_coming t) ss) t ram ≡ record { devices = map (at_coming (t + 1)) ss; ram = ram; frames = []; recs = [] }
+unfolding walk least_due
+begun_all n t size limit ram [] all le due = refl
+begun_all n t size limit ram (s ∷ ss) all le due =
+    let d : IfSome (dev_next s) (λ due. t < due) × (t < least_due limit ss) = below t (least_due limit ss) (dev_next s) due in
+    ap (λ (b : Begun). put_first (record { device = b.device; ram = b.ram; frames = []; recs = b.recs }) (walk (begin_one t) (map (at_coming t) ss) b.ram))
+    (skipped_begin n t size ram s (All-head (IsComing n size) s ss all) le d.0)
+    ∙ ap (put_first (record { device = at_coming (t + 1) s; ram = ram; frames = []; recs = [] })) (begun_all n t size limit ram ss (All-tail (IsComing n size) s ss all) le d.1)
+
+-- a tick ends in which nothing is served, and changes nothing
+pub ended_all : (t u : ℕ) (ram : List ℕ) (ss : List DevState) → list_all dev_end_idle ss ≡ true → end_all (map (at_coming u) ss) t ram ≡ record { devices = map (at_coming u) ss; ram = ram; frames = []; recs = [] }
+unfolding walk
+ended_all t u ram [] idle = refl
+ended_all t u ram (s ∷ ss) idle =
+    let i : (dev_end_idle s ≡ true) × (list_all dev_end_idle ss ≡ true) = and_parts (dev_end_idle s) (list_all dev_end_idle ss) idle in
+    ap (λ (e : Ended). put_first e (walk (end_one t) (map (at_coming u) ss) e.ram)) (skipped_end t u ram s i.0)
+    ∙ ap (put_first (record { device = at_coming u s; ram = ram; frames = []; recs = [] })) (ended_all t u ram ss i.1)
+
+-- the lines stay until something is due
+pub lines_all : (n t u size limit : ℕ) (ss : List DevState) → All (IsComing n size) ss → n ≤ t → t < least_due limit ss → all_lines (map (at_coming u) ss) t ≡ all_lines ss n
+unfolding all_lines least_due
+lines_all n t u size limit [] all le due = refl
+lines_all n t u size limit (s ∷ ss) all le due =
+    let d : IfSome (dev_next s) (λ due. t < due) × (t < least_due limit ss) = below t (least_due limit ss) (dev_next s) due in
+    ap (λ l. join_lines l (all_lines (map (at_coming u) ss) t)) (skipped_lines n t u size s (All-head (IsComing n size) s ss all) le d.0)
+    ∙ ap (join_lines (dev_lines s n)) (lines_all n t u size limit ss (All-tail (IsComing n size) s ss all) le d.1)
+
+-- as a walk
+abbrev pub skip_one : ℕ → DevState → List ℕ → Ended
+skip_one t s ram = record { device = at_coming t s; ram = ram; frames = []; recs = [] }
+
+pub skip_walk : (t : ℕ) (ram : List ℕ) (ss : List DevState) → (walk (skip_one t) ss ram).devices ≡ map (at_coming t) ss
+unfolding walk
+skip_walk t ram [] = refl
+skip_walk t ram (s ∷ ss) = ap (λ es. at_coming t s ∷ es) (skip_walk t ram ss)
