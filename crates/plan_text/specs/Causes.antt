@@ -2,9 +2,10 @@
 use Rattle.std.specs.Prelude.{◌≡◌, ℕ, ◌≤◌, Result, Err}
 use Rattle.tb_io.specs.Causes.{Rose}
 use Rattle.plan_text.specs.declared.plan_err.PlanErr.{PlanErr}
-use Rattle.plan_text.specs.declared.plan_err.PlanErr.TheVariants.{Failed}
+use Rattle.plan_text.specs.declared.plan_err.PlanErr.TheVariants.{NoMemory, Failed}
 
--- the sink's count never falls, and `Failed` comes only where it rose
+-- the sink's count never falls. `Failed` comes only where it rose, and `NoMemory` only where it stands as it was
 pub record PlanCause {T : Type 0} (before now : ℕ) (result : Result T PlanErr) : Type 0 where
   pub later : before ≤ now
   pub failed : result ≡ Err Failed → Rose before now
+  pub no_memory : result ≡ Err NoMemory → now ≡ before

@@ -1,5 +1,5 @@
 //! Plans that are put to a sink.
-ghost use Rattle.std.specs.Prelude.{ℕ, List, OnOk, OnErr};
+ghost use Rattle.std.specs.Prelude.{◌≡◌, ℕ, List, OnOk, OnErr};
 ghost use Rattle.std.specs.List.{concat};
 ghost use Rattle.tb_io.specs.Causes.{HasCause};
 ghost use Rattle.tb_io.specs.Puts.{Takes, TakesPart};
@@ -45,6 +45,7 @@ pub fn put_plan<O: Sink>(
     ensures ok { OnOk result (PutsPlan e.now p.now.slots.items (O.taken out.old) (O.taken out.new)) }
     ensures err { OnErr result (PutsPlanPart e.now p.now.slots.items (O.taken out.old) (O.taken out.new)) }
     ensures cause { PlanCause (O.faults out.old) (O.faults out.new) result }
+    ensures unput { result ≡ Err PlanErr.NoMemory → O.taken out.new ≡ O.taken out.old }
 {
     let least = least_factor(e, p);
     let lines = match plan_lines(alloc, e, p, least) {

@@ -18,7 +18,7 @@ use Rattle.tb_top.specs.Words.{IsRun, IsPlan, IsCommand, IsWithinLimit, Gives}
 run_file : (words : List (List ℕ)) (f n : List ℕ) → IsRun words f n → get_or words 1 [] ≡ f
 run_file words f n h = ap (λ (ws : List (List ℕ)). get_or ws 1 []) h
 
-run_number : (words : List (List ℕ)) (f g n m : List ℕ) → IsRun words f n → IsRun words g m → n ≡ m
+pub run_number : (words : List (List ℕ)) (f g n m : List ℕ) → IsRun words f n → IsRun words g m → n ≡ m
 run_number words f g n m h k = ap (λ (ws : List (List ℕ)). get_or ws 3 []) (sym h ∙ k)
 
 plan_file : (words : List (List ℕ)) (f : List ℕ) → IsPlan words f → get_or words 1 [] ≡ f

@@ -17,13 +17,14 @@ use Rattle.bench_build.specs.declared.image_fault.ImageFault.{ImageFault}
 use Rattle.tb_top.specs.declared.status.FileId.TheVariants as file
 use Rattle.tb_top.specs.declared.status.Status.{Status}
 use Rattle.tb_top.specs.declared.status.Status.TheVariants.{Done, Overload as Over, Usage, Experiment as Refused, Build, TooLong, ReadFault, WriteFault, Memory}
-use Rattle.tb_top.specs.Ends.{World, world, Ends, MayRun, WellFormed, AtImage, IsTooLong, PutsOver, Unsupplied}
+use Rattle.tb_top.specs.Ends.{World, Ends, MayRun, WellFormed, AtImage, IsTooLong, PutsOver, Unsupplied}
+use Rattle.tb_top.specs.Headline.{IsUndisturbed}
 use Rattle.tb_top.specs.Loads.{IsRefused}
 use Rattle.tb_top.specs.declared.words.Task.TheVariants.{Run}
 use Rattle.tb_top.proofs.Asked.{of_told, ok_not_err, usage_not, file_short, refused_not, says_same}
 use Rattle.tb_top.proofs.Room.{fits_room}
 
-no_overload : (e : Experiment) (p : List ℕ) (o : Overload) → Fits e p → IsFirstOverload e p o → ⊥
+pub no_overload : (e : Experiment) (p : List ℕ) (o : Overload) → Fits e p → IsFirstOverload e p o → ⊥
 no_overload e p o fits over =
     let low : need e p o.slot ≤ have e o.slot = fits o.slot over.slot in
     omega (arith, low, over.needs, over.has, over.over)
@@ -73,29 +74,32 @@ supplied w e kind.Clint wanted had may enough (name, (t, command, (b, read, (f, 
 supplied w e kind.Uart wanted had may enough (name, (t, command, (b, read, (f, says, (fits, (run, (images, loaded, short))))))) =
     fewer_not (length f.guests.items) (length e.guests.items) w.stock.1 (ap (λ (x : Experiment). length x.guests.items) (says_same w (Run may.host_ticks) t e f may.asks name b command read says)) enough.uarts_suffice short.2
 
-pub ends_well : (w : World) (s : Status) (e : Experiment) → Ends w s → MayRun w.words w.held e → Suffices (length e.guests.items) w.stock.0 w.stock.1
+-- where neither memory nor a file nor the output failed, the run is done
+pub done_undisturbed : (w : World) (s : Status) (e : Experiment) → Ends w s → MayRun w.words w.held e → Suffices (length e.guests.items) w.stock.0 w.stock.1 → IsUndisturbed s → s ≡ Done
+done_undisturbed w Done e ends may enough calm = refl
+done_undisturbed w (Usage f) e (quiet, gives) may enough calm = absurd (usage_not w (Run may.host_ticks) e f may.asks gives)
+done_undisturbed w (Refused f) e (quiet, read) may enough calm = absurd (refused_not w (Run may.host_ticks) e f may.asks read)
+done_undisturbed w (Over slot needs has) e over may enough calm = absurd (overload_not w e (record { slot = slot; need = needs; have = has }) may over)
+done_undisturbed w (Build (build.Image i fault)) e (quiet, at) may enough calm = absurd (image_taken w e i fault may at)
+done_undisturbed w (Build (build.NoDevice kind wanted had)) e (quiet, short) may enough calm = absurd (supplied w e kind wanted had may enough short)
+done_undisturbed w (Build build.NoMemory) e ends may enough calm = absurd ends
+done_undisturbed w Memory e ends may enough calm = absurd calm
+done_undisturbed w WriteFault e ends may enough calm = absurd calm
+done_undisturbed w (TooLong f) e ends may enough calm = absurd calm
+done_undisturbed w (ReadFault f) e ends may enough calm = absurd calm
+
+pub completes : (w : World) (s : Status) (e : Experiment) → Ends w s → MayRun w.words w.held e → Suffices (length e.guests.items) w.stock.0 w.stock.1
     → ¬ Rose w.file_faults.0 w.file_faults.1 → ¬ Rose w.out_faults.0 w.out_faults.1 → (s ≡ Done) ⊎ (s ≡ Memory)
-ends_well w Done e ends may enough files out = inl refl
-ends_well w Memory e ends may enough files out = inr refl
-ends_well w WriteFault e (rose, part) may enough files out = absurd (out rose)
-ends_well w (Usage f) e (quiet, gives) may enough files out = absurd (usage_not w (Run may.host_ticks) e f may.asks gives)
-ends_well w (Refused f) e (quiet, read) may enough files out = absurd (refused_not w (Run may.host_ticks) e f may.asks read)
-ends_well w (Over slot needs has) e over may enough files out = absurd (overload_not w e (record { slot = slot; need = needs; have = has }) may over)
-ends_well w (TooLong file.Experiment) e (quiet, long) may enough files out = absurd (file_short w (Run may.host_ticks) e may.asks long)
-ends_well w (TooLong (file.Image i)) e (quiet, at) may enough files out = absurd (image_short w e i may at)
-ends_well w (TooLong (file.Disk i)) e ends may enough files out = absurd ends
-ends_well w (ReadFault file.Experiment) e (quiet, (name, (t, command, (rose, is)))) may enough files out = absurd (files rose)
-ends_well w (ReadFault (file.Image i)) e (quiet, (name, (t, command, (b, read, (f, says, (fits, (run, stops))))))) may enough files out = absurd (files stops.why.0)
-ends_well w (ReadFault (file.Disk i)) e ends may enough files out = absurd ends
-ends_well w (Build (build.Image i fault)) e (quiet, at) may enough files out = absurd (image_taken w e i fault may at)
-ends_well w (Build (build.NoDevice kind wanted had)) e (quiet, short) may enough files out = absurd (supplied w e kind wanted had may enough short)
-ends_well w (Build build.NoMemory) e ends may enough files out = absurd ends
-
-pub completes : (words : List (List ℕ)) (held : List ℕ → Option (List ℕ)) (f0 f1 : ℕ) (fault_name : List ℕ) (t0 t1 : Option (List ℕ)) (o0 o1 clints uarts : ℕ) (s : Status) (e : Experiment)
-    → Ends (world words held f0 f1 fault_name t0 t1 o0 o1 clints uarts) s → MayRun words held e → Suffices (length e.guests.items) clints uarts → ¬ Rose f0 f1 → ¬ Rose o0 o1 → (s ≡ Done) ⊎ (s ≡ Memory)
-completes words held f0 f1 fault_name t0 t1 o0 o1 clints uarts s e ends may enough files out = ends_well (world words held f0 f1 fault_name t0 t1 o0 o1 clints uarts) s e ends may enough files out
-
--- the status of the command, or want of memory for its line
-pub kept : (s r : Status) (P : Type 0) → (s ≡ r) ⊎ ((s ≡ Memory) × P) → (r ≡ Done) ⊎ (r ≡ Memory) → (s ≡ Done) ⊎ (s ≡ Memory)
-kept s r P (inl same) h = subst (λ (z : Status). (z ≡ Done) ⊎ (z ≡ Memory)) (sym same) h
-kept s r P (inr (memory, p)) h = inr memory
+completes w Memory e ends may enough files out = inr refl
+completes w WriteFault e (rose, part) may enough files out = absurd (out rose)
+completes w (TooLong file.Experiment) e (quiet, long) may enough files out = absurd (file_short w (Run may.host_ticks) e may.asks long)
+completes w (TooLong (file.Image i)) e (quiet, at) may enough files out = absurd (image_short w e i may at)
+completes w (TooLong (file.Disk i)) e ends may enough files out = absurd ends
+completes w (ReadFault file.Experiment) e (quiet, (name, (t, command, (rose, is)))) may enough files out = absurd (files rose)
+completes w (ReadFault (file.Image i)) e (quiet, (name, (t, command, (b, read, (f, says, (fits, (run, stops))))))) may enough files out = absurd (files stops.why.0)
+completes w (ReadFault (file.Disk i)) e ends may enough files out = absurd ends
+completes w Done e ends may enough files out = inl refl
+completes w (Usage f) e ends may enough files out = inl (done_undisturbed w (Usage f) e ends may enough tt)
+completes w (Refused f) e ends may enough files out = inl (done_undisturbed w (Refused f) e ends may enough tt)
+completes w (Over slot needs has) e ends may enough files out = inl (done_undisturbed w (Over slot needs has) e ends may enough tt)
+completes w (Build f) e ends may enough files out = inl (done_undisturbed w (Build f) e ends may enough tt)

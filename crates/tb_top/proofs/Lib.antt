@@ -2,6 +2,7 @@ pub mod Asked
 pub mod Complete
 pub mod Ending
 pub mod Few
+pub mod Headline
 pub mod Images
 pub mod Planned
 pub mod Putting

@@ -10,6 +10,9 @@ use Rattle.host_plan.specs.Fits.{Fits, IsFirstOverload, IsLeast}
 use Rattle.host_plan.specs.Placing.{placed, seated, settled, settle, loads_of, seat_of, home_of}
 use Rattle.plan_text.specs.Puts.{PutsPlan, PutsPlanPart}
 use Rattle.plan_text.specs.Texts.{plan_lines, plan_text}
+use Rattle.host_journal.specs.declared.head.Head.{Head}
+use Rattle.tb_top.specs.Reads.{AreLoaded}
+use Rattle.tb_top.specs.Runs.{IsHead, PutsAll}
 
 -- a placement is the same
 settled_room : (e : Experiment) (n : ℕ) (seats : List Seat) → settled (without_room e) n seats ≡ settled e n seats
@@ -58,3 +61,19 @@ part_room old new =
     with_room (λ e p. PutsPlanPart e p old new)
     (λ x p h. (h.0, least_out h.0 x p h.1, subst (λ (t : List ℕ). TakesPart old new t) (sym (text_room x p h.0)) h.2))
     (λ x p h. (h.0, least_back h.0 x p h.1, subst (λ (t : List ℕ). TakesPart old new t) (text_room x p h.0) h.2))
+
+-- a run's images, and what it put
+abbrev RunPut : (List ℕ → Option (List ℕ)) → ℕ → Option (List ℕ) → Option (List ℕ) → Experiment → List ℕ → Type 0
+RunPut held n old new e p = (images : List (List ℕ)) × AreLoaded held e.guests.items images × PutsAll e p images n old new
+
+head_out : (x : Experiment) (n : ℕ) (h : Head) → IsHead x n h → IsHead (without_room x) n h
+head_out x n h is = record { factor = is.factor; slots = is.slots; ticks = is.ticks; names = is.names }
+
+head_back : (x : Experiment) (n : ℕ) (h : Head) → IsHead (without_room x) n h → IsHead x n h
+head_back x n h is = record { factor = is.factor; slots = is.slots; ticks = is.ticks; names = is.names }
+
+pub run_room : (held : List ℕ → Option (List ℕ)) (n : ℕ) (old new : Option (List ℕ)) (e f : Experiment) → without_room f ≡ without_room e → RunPut held n old new e (placed e) → RunPut held n old new f (placed f)
+run_room held n old new =
+    with_room (RunPut held n old new)
+    (λ x p h. (h.0, h.1, (h.2.0, head_out x n h.2.0 h.2.1, h.2.2)))
+    (λ x p h. (h.0, h.1, (h.2.0, head_back x n h.2.0 h.2.1, h.2.2)))

@@ -1,5 +1,6 @@
 pub mod Ends
 pub mod Fetches
+pub mod Headline
 pub mod Lines
 pub mod Loads
 pub mod Plans

@@ -2,7 +2,7 @@
 use Rattle.std.specs.Prelude.{◌≡◌, ℕ, nat_le, ◌&&◌, Bool, true, false, if◌then◌else◌, List, [], ◌∷◌, ◌++◌, map, Option, codes, MatchBool}
 use Rattle.std.specs.Fmt.{decimal}
 use Rattle.tb_io.specs.Causes.{Rose}
-use Rattle.tb_io.specs.Puts.{Takes}
+use Rattle.tb_io.specs.Puts.{Takes, TakesPart}
 use Rattle.exp_file.specs.declared.exp_fault.ExpFault.{ExpFault}
 use Rattle.exp_file.specs.declared.exp_why.ExpWhy.{ExpWhy}
 use Rattle.exp_file.specs.declared.exp_why.ExpWhy.TheVariants.{NotToml, Missing, Unknown, WrongKind, Range, Twice, NoSuchGuest, NicTaken, NicRange, NoGuest, NoSlot, NotBuilt}
@@ -95,7 +95,8 @@ file_words (file.Disk i) = codes "disk " ++ decimal i
 -- the line of a status; `Done` has none
 unfoldable pub status_line : Status → List ℕ
 status_line Done = []
-status_line (Overload slot need have) = codes "diecast: overload: slot " ++ decimal slot ++ codes " needs " ++ decimal need ++ codes ", has " ++ decimal have ++ codes "\n"
+status_line (Overload slot need have) =
+    codes "diecast: overload: slot " ++ decimal slot ++ codes " needs " ++ decimal need ++ codes ", has " ++ decimal have ++ codes "\n"
 status_line (Usage f) = codes "diecast: usage: " ++ usage_word f ++ codes "\n"
 status_line (Experiment f) = codes "diecast: experiment: " ++ fault_words f ++ codes "\n"
 status_line (Build f) = codes "diecast: " ++ build_words f ++ codes "\n"
@@ -108,6 +109,11 @@ abbrev pub is_done : Status → Bool
 is_done Done = true
 is_done _ = false
 
--- what the message's sink took: nothing after `Done`, else exactly the line where its count did not rise
+-- a sink took this line, and where its count rose maybe only a first part of it
+pub record SaysLine (line : List ℕ) (old new : Option (List ℕ)) (before now : ℕ) : Type 0 where
+  pub part : TakesPart old new line
+  pub whole : ¬ Rose before now → Takes old new line
+
+-- what the message's sink took: nothing after `Done`, else the line of the status
 abbrev pub Told : Status → Option (List ℕ) → Option (List ℕ) → ℕ → ℕ → Type 0
-Told s old new before now = MatchBool (is_done s) (new ≡ old) (¬ Rose before now → Takes old new (status_line s))
+Told s old new before now = MatchBool (is_done s) (new ≡ old) (SaysLine (status_line s) old new before now)

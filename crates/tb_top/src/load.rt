@@ -32,7 +32,8 @@ fn load_image<F: Files>(
     requires more { added builder.old < wanted builder.old }
     ensures held { F.held files.new ≡ F.held files.old }
     ensures later { F.faults files.old ≤ F.faults files.new }
-    ensures loads { (e : Experiment) (slots : List ℕ) (images : List (List ℕ)) → IsBuilding e slots images builder.old → slice_get e.guests.items (length images) ≡ Some guest.now →
+    ensures loads { (e : Experiment) (slots : List ℕ) (images : List (List ℕ)) →
+        IsBuilding e slots images builder.old → slice_get e.guests.items (length images) ≡ Some guest.now →
         ImageLoads (F.held files.old) (length images) guest.now (F.faults files.old) (F.faults files.new) (F.fault_name files.new)
         (λ b. IsBuilding e slots (images ++ b ∷ []) builder.new) result }
     ensures wanted { wanted builder.new ≡ wanted builder.old }

@@ -1,9 +1,7 @@
 //! The line of a status.
 ghost use Rattle.std.specs.Prelude.{◌≡◌, ◌++◌, ◌⊎◌, ℕ, map, take, IfOk, OnOk, false};
 ghost use Rattle.std.specs.Fmt.{decimal};
-ghost use Rattle.tb_io.specs.Causes.{Rose};
-ghost use Rattle.tb_io.specs.Puts.{Takes};
-ghost use Rattle.tb_top.specs.Lines.{status_line, is_done, why_word, section_word, usage_word, file_words, fault_words, build_words, kind_word, image_words, elf_word, header_words, shown_key, shown_byte, Told};
+ghost use Rattle.tb_top.specs.Lines.{status_line, is_done, why_word, section_word, usage_word, file_words, fault_words, build_words, kind_word, image_words, elf_word, header_words, shown_key, shown_byte, SaysLine, Told};
 
 use crate::status::{FileId, Status};
 use crate::words::WordFault;
@@ -19,10 +17,10 @@ use tb_text::put_dec;
 const OUT_OF_MEMORY: &[u8; 23] = b"diecast: out of memory\n";
 
 /// Tells a status, and gives the one that the command ends with: where there is no memory for the
-/// line, that is `Memory`.
+/// line, that is `Memory`. It is settled before anything is put, whatever comes of the put.
 #[tactic(auto, unfolding(crate::specs::Lines::status_line))]
 pub(crate) fn tell<M: Sink>(alloc: Global, status: Status, msg: &mut M) -> Status
-    ensures same { (result ≡ status) ⊎ ((result ≡ Status.Memory) × (is_done status ≡ false)) }
+    ensures status { (result ≡ status) ⊎ ((result ≡ Status.Memory) × (is_done status ≡ false)) }
     ensures told { Told result (M.taken msg.old) (M.taken msg.new) (M.faults msg.old) (M.faults msg.new) }
 {
     if is_done(&status) {
@@ -48,9 +46,12 @@ fn is_done(status: &Status) -> bool
 
 /// Puts a line, whatever comes of it.
 fn say<M: Sink>(msg: &mut M, line: &[u8])
-    ensures { ¬ Rose (M.faults msg.old) (M.faults msg.new) → Takes (M.taken msg.old) (M.taken msg.new) line.now }
+    ensures { SaysLine line.now (M.taken msg.old) (M.taken msg.new) (M.faults msg.old) (M.faults msg.new) }
 {
-    let _ = msg.put(line);
+    match msg.put(line) {
+        Ok(()) => (),
+        Err(_) => (),
+    }
 }
 
 /// The line of a status, which for `Done` is empty.

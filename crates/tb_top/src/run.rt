@@ -83,7 +83,8 @@ fn put_run<O: Sink, D: Device>(
     requires whole { has_failed keep.old ≡ false }
     ensures { (e : Experiment) (slots : List ℕ) (images : List (List ℕ)) →
         BenchStands (setup e images) bench host_ticks → IsAtTick (setup e images) bench host_ticks start → plan_of bench host_ticks ≡ plan e slots host_ticks →
-        IsHead e host_ticks (head_of keep.old) → Runs e slots images host_ticks (O.taken out.old) (O.taken out.new) (O.faults out.old) (O.faults out.new) result }
+        IsHead e host_ticks (head_of keep.old) →
+        Runs e slots images host_ticks (O.taken out.old) (O.taken out.new) (O.faults out.old) (O.faults out.new) result }
 {
     let mut bench = bench;
     match keep.start(out) {
@@ -114,7 +115,8 @@ pub(crate) fn run<O: Sink, D: Device>(
     requires few { host_ticks ≤ 1000000 }
     requires members { members_of bench ≡ length e.now.guests.items }
     ensures { (slots : List ℕ) (images : List (List ℕ)) →
-        BenchStands (setup e.now images) bench host_ticks → IsAtTick (setup e.now images) bench host_ticks start → plan_of bench host_ticks ≡ plan e.now slots host_ticks →
+        BenchStands (setup e.now images) bench host_ticks → IsAtTick (setup e.now images) bench host_ticks start →
+        plan_of bench host_ticks ≡ plan e.now slots host_ticks →
         Runs e.now slots images host_ticks (O.taken out.old) (O.taken out.new) (O.faults out.old) (O.faults out.new) result }
 {
     let head = match head_for(alloc, e, host_ticks) {

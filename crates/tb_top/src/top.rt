@@ -8,6 +8,7 @@ ghost use Rattle.exp_file.specs.declared.experiment.Experiment.{Experiment};
 ghost use Rattle.exp_file.specs.WellFormed.{IsWellFormed};
 ghost use Rattle.exp_file.specs.Reading.{is_built};
 ghost use Rattle.host_plan.specs.Placing.{placed};
+ghost use Rattle.tb_top.specs.Headline.{Headline};
 ghost use Rattle.tb_top.specs.Lines.{Told};
 ghost use Rattle.tb_base.specs.declared.limits.TheConstants.{EXPERIMENT_FILE};
 ghost use Rattle.host_plan.specs.Fits.{Fits, IsPlacement};
@@ -48,18 +49,26 @@ pub fn diecast<F: Files, O: Sink, M: Sink>(
     requires uarts { All (IsBlankFor config.Uart) (map (⟦<Box<dyn Device> as Device>⟧.state) stock.uarts.items) }
     // What the status says and what `out` has taken: with `Done`, the text of a complete legal
     // journal of the very experiment and images that were read, or the plan of that experiment.
-    ensures ends { Ends (world (map string_bytes words.now) (F.held files.old) (F.faults files.old) (F.faults files.new) (F.fault_name files.new) (O.taken out.old) (O.taken out.new) (O.faults out.old) (O.faults out.new) (length stock.clints.items) (length stock.uarts.items)) result }
+    ensures ends { Ends (world (map string_bytes words.now) (F.held files.old) (F.faults files.old) (F.faults files.new) (F.fault_name files.new)
+        (O.taken out.old) (O.taken out.new) (O.faults out.old) (O.faults out.new) (length stock.clints.items) (length stock.uarts.items)) result }
+
+    // The sentence that the testbed stands for: the placement is accepted exactly where it fits, and
+    // after every host tick of an accepted run each guest's trace is that of the undilated system.
+    ensures headline { Headline (world (map string_bytes words.now) (F.held files.old) (F.faults files.old) (F.faults files.new) (F.fault_name files.new)
+        (O.taken out.old) (O.taken out.new) (O.faults out.old) (O.faults out.new) (length stock.clints.items) (length stock.uarts.items)) result }
 
     // Where all that is told is right and nothing fails, a run comes to its end, or finds no memory.
     ensures complete { (e : Experiment) → MayRun (map string_bytes words.now) (F.held files.old) e
-        → Suffices (length e.guests.items) (length stock.clints.items) (length stock.uarts.items) → ¬ Rose (F.faults files.old) (F.faults files.new) → ¬ Rose (O.faults out.old) (O.faults out.new) → (result ≡ Status.Done) ⊎ (result ≡ Status.Memory) }
+        → Suffices (length e.guests.items) (length stock.clints.items) (length stock.uarts.items)
+        → ¬ Rose (F.faults files.old) (F.faults files.new) → ¬ Rose (O.faults out.old) (O.faults out.new) → (result ≡ Status.Done) ⊎ (result ≡ Status.Memory) }
 
     // Where the file of a plan is told and right and no file fails, the plan is put and the status
     // says whether it fits, but for a failed put and want of memory.
-    ensures planned { (e : Experiment) → Asks (map string_bytes words.now) (F.held files.old) Task.Plan e
-        → ¬ Rose (F.faults files.old) (F.faults files.new) → Plans e (placed e) (O.taken out.old) (O.taken out.new) (O.faults out.old) (O.faults out.new) result }
+    ensures planned { (e : Experiment) → Asks (map string_bytes words.now) (F.held files.old) Task.Plan e → ¬ Rose (F.faults files.old) (F.faults files.new)
+        → Plans e (placed e) (O.taken out.old) (O.taken out.new) (O.faults out.old) (O.faults out.new) result }
 
-    // The line of the status, where `msg` did not fail.
+    // What `msg` has taken: the line of the very status that is answered, or where `msg` failed a
+    // first part of it. So no fault of `msg` makes the status another one.
     ensures told { Told result (M.taken msg.old) (M.taken msg.new) (M.faults msg.old) (M.faults msg.new) }
 {
     with_devices(alloc, words, files, out, msg, stock.clints, stock.uarts)
@@ -77,11 +86,8 @@ fn with_devices<F: Files, O: Sink, M: Sink, D: Device>(
 ) -> Status
     requires clints { All (IsBlankFor config.Clint) (map D.state clints.items) }
     requires uarts { All (IsBlankFor config.Uart) (map D.state uarts.items) }
-    ensures ends { Ends (world (map string_bytes words.now) (F.held files.old) (F.faults files.old) (F.faults files.new) (F.fault_name files.new) (O.taken out.old) (O.taken out.new) (O.faults out.old) (O.faults out.new) (length clints.items) (length uarts.items)) result }
-    ensures complete { (e : Experiment) → MayRun (map string_bytes words.now) (F.held files.old) e
-        → Suffices (length e.guests.items) (length clints.items) (length uarts.items) → ¬ Rose (F.faults files.old) (F.faults files.new) → ¬ Rose (O.faults out.old) (O.faults out.new) → (result ≡ Status.Done) ⊎ (result ≡ Status.Memory) }
-    ensures planned { (e : Experiment) → Asks (map string_bytes words.now) (F.held files.old) Task.Plan e
-        → ¬ Rose (F.faults files.old) (F.faults files.new) → Plans e (placed e) (O.taken out.old) (O.taken out.new) (O.faults out.old) (O.faults out.new) result }
+    ensures ends { Ends (world (map string_bytes words.now) (F.held files.old) (F.faults files.old) (F.faults files.new) (F.fault_name files.new)
+        (O.taken out.old) (O.taken out.new) (O.faults out.old) (O.faults out.new) (length clints.items) (length uarts.items)) result }
     ensures told { Told result (M.taken msg.old) (M.taken msg.new) (M.faults msg.old) (M.faults msg.new) }
 {
     let status = work(alloc, words, files, out, clints, uarts);
@@ -99,7 +105,8 @@ fn work<F: Files, O: Sink, D: Device>(
 ) -> Status
     requires clints { All (IsBlankFor config.Clint) (map D.state clints.items) }
     requires uarts { All (IsBlankFor config.Uart) (map D.state uarts.items) }
-    ensures { Ends (world (map string_bytes words.now) (F.held files.old) (F.faults files.old) (F.faults files.new) (F.fault_name files.new) (O.taken out.old) (O.taken out.new) (O.faults out.old) (O.faults out.new) (length clints.items) (length uarts.items)) result }
+    ensures { Ends (world (map string_bytes words.now) (F.held files.old) (F.faults files.old) (F.faults files.new) (F.fault_name files.new)
+        (O.taken out.old) (O.taken out.new) (O.faults out.old) (O.faults out.new) (length clints.items) (length uarts.items)) result }
 {
     match read_words(words) {
         Ok(command) => run_command(alloc, command, files, out, clints, uarts),
@@ -120,7 +127,8 @@ fn run_command<F: Files, O: Sink, D: Device>(
     requires uarts { All (IsBlankFor config.Uart) (map D.state uarts.items) }
     requires limit { IsWithinLimit command.task }
     ensures { (words : List (List ℕ)) → IsCommand words command.entry.file.now command.entry.task →
-        Ends (world words (F.held files.old) (F.faults files.old) (F.faults files.new) (F.fault_name files.new) (O.taken out.old) (O.taken out.new) (O.faults out.old) (O.faults out.new) (length clints.items) (length uarts.items)) result }
+        Ends (world words (F.held files.old) (F.faults files.old) (F.faults files.new) (F.fault_name files.new)
+        (O.taken out.old) (O.taken out.new) (O.faults out.old) (O.faults out.new) (length clints.items) (length uarts.items)) result }
 {
     let bytes = match fetch(alloc, files, command.file, EXPERIMENT_FILE) {
         Ok(bytes) => bytes,
@@ -148,8 +156,9 @@ fn do_task<F: Files, O: Sink, D: Device>(
     requires well_formed { IsWellFormed e.now }
     requires built { is_built e.now ≡ true }
     requires few { IsWithinLimit task }
-    ensures { (words : List (List ℕ)) (name b : List ℕ) (before : ℕ) → IsCommand words name task → IsRead (F.held files.old name) EXPERIMENT_FILE b → Says b e.now → before ≤ F.faults files.old →
-        Ends (world words (F.held files.old) before (F.faults files.new) (F.fault_name files.new) (O.taken out.old) (O.taken out.new) (O.faults out.old) (O.faults out.new) (length clints.items) (length uarts.items)) result }
+    ensures { (words : List (List ℕ)) (name b : List ℕ) (before : ℕ) → IsCommand words name task → IsRead (F.held files.old name) EXPERIMENT_FILE b
+        → Says b e.now → before ≤ F.faults files.old → Ends (world words (F.held files.old) before (F.faults files.new) (F.fault_name files.new)
+        (O.taken out.old) (O.taken out.new) (O.faults out.old) (O.faults out.new) (length clints.items) (length uarts.items)) result }
 {
     let placement = match place(alloc, e) {
         Ok(placement) => placement,
@@ -208,8 +217,9 @@ fn run_checked<F: Files, O: Sink, D: Device>(
     requires few { host_ticks ≤ 1000000 }
     requires placed { placement.now.slots.items ≡ placed e.now }
     requires placement { IsPlacement e.now placement.now.slots.items }
-    ensures { (words : List (List ℕ)) (name b : List ℕ) (before : ℕ) → IsRunOf words name host_ticks → IsRead (F.held files.old name) EXPERIMENT_FILE b → Says b e.now → before ≤ F.faults files.old →
-        Ends (world words (F.held files.old) before (F.faults files.new) (F.fault_name files.new) (O.taken out.old) (O.taken out.new) (O.faults out.old) (O.faults out.new) (length clints.items) (length uarts.items)) result }
+    ensures { (words : List (List ℕ)) (name b : List ℕ) (before : ℕ) → IsRunOf words name host_ticks → IsRead (F.held files.old name) EXPERIMENT_FILE b
+        → Says b e.now → before ≤ F.faults files.old → Ends (world words (F.held files.old) before (F.faults files.new) (F.fault_name files.new)
+        (O.taken out.old) (O.taken out.new) (O.faults out.old) (O.faults out.new) (length clints.items) (length uarts.items)) result }
 {
     match check(e, placement) {
         Ok(()) => run_placed(alloc, e, placement, host_ticks, files, out, clints, uarts),
@@ -236,8 +246,9 @@ fn run_placed<F: Files, O: Sink, D: Device>(
     requires placed { placement.now.slots.items ≡ placed e.now }
     requires placement { IsPlacement e.now placement.now.slots.items }
     requires fits { Fits e.now placement.now.slots.items }
-    ensures { (words : List (List ℕ)) (name b : List ℕ) (before : ℕ) → IsRunOf words name host_ticks → IsRead (F.held files.old name) EXPERIMENT_FILE b → Says b e.now → before ≤ F.faults files.old →
-        Ends (world words (F.held files.old) before (F.faults files.new) (F.fault_name files.new) (O.taken out.old) (O.taken out.new) (O.faults out.old) (O.faults out.new) (length clints.items) (length uarts.items)) result }
+    ensures { (words : List (List ℕ)) (name b : List ℕ) (before : ℕ) → IsRunOf words name host_ticks → IsRead (F.held files.old name) EXPERIMENT_FILE b
+        → Says b e.now → before ≤ F.faults files.old → Ends (world words (F.held files.old) before (F.faults files.new) (F.fault_name files.new)
+        (O.taken out.old) (O.taken out.new) (O.faults out.old) (O.faults out.new) (length clints.items) (length uarts.items)) result }
 {
     let mut builder = match Builder::new(alloc, e, placement) {
         Ok(builder) => builder,

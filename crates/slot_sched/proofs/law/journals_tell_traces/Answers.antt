@@ -1,0 +1,11 @@
+-- A run's rules start with no tick and no record.
+use Rattle.std.proofs.Common.{refl}
+use Rattle.slot_sched.specs.Schedule.{rules}
+use Rattle.slot_sched.proofs.Telling.{tells, kept_up}
+use Rattle.slot_sched.proofs.law.journals_tell_traces.Goals as goal
+
+pub returns-clause-told : goal.returns-clause-told
+returns-clause-told g c = λ x p es legal i. tells (rules g.N.Node.motion x p) es i (record { ticks = refl; trace = refl }) legal
+
+pub returns-clause-kept_up : goal.returns-clause-kept_up
+returns-clause-kept_up g c = λ x p es t i legal past few lt. kept_up (rules g.N.Node.motion x p) es t i (record { ticks = refl; trace = refl }) legal past few lt

@@ -1,0 +1,70 @@
+-- The promise of the testbed. For every experiment file, the placement is accepted exactly where each slot's shares fit its capacity times the factor. After
+-- every host tick t of an accepted run, unless memory, a file or the output failed, each guest's printed trace is its trace in the undilated synchronous system
+-- up to some virtual tick, at least t / factor rounded down. The printed schedule is legal.
+use Rattle.std.specs.Prelude.{◌≡◌, ℕ, ◌/◌, ◌<◌, ◌≤◌, ◌⊎◌, List, length}
+use Rattle.tb_io.specs.Puts.{Takes}
+use Rattle.exp_file.specs.declared.experiment.Experiment.{Experiment}
+use Rattle.host_plan.specs.Fits.{Fits, IsFirstOverload}
+use Rattle.host_plan.specs.Placing.{placed}
+use Rattle.host_plan.specs.declared.overload.Overload.{Overload as Over}
+use Rattle.lookahead_core.specs.Synchronous.{trace, ticks_by}
+use Rattle.guest_machine.specs.Tick.{machine_motion}
+use Rattle.host_journal.specs.Entries.{Entry}
+use Rattle.host_journal.specs.Printed.{recs_of, units_of, count_of, up_to_tick}
+use Rattle.host_journal.specs.Texts.{journal_text}
+use Rattle.host_journal.specs.declared.head.Head.{Head}
+use Rattle.slot_sched.specs.Legal.{IsComplete}
+use Rattle.bench_build.specs.Setups.{setup, run_rules}
+use Rattle.bench_build.specs.Stocks.{Suffices}
+use Rattle.tb_top.specs.Ends.{World, Asks, MayRun, Quiet, IsPartPut}
+use Rattle.tb_top.specs.Reads.{AreLoaded}
+use Rattle.tb_top.specs.Runs.{IsHead}
+use Rattle.tb_top.specs.declared.status.Status.{Status}
+use Rattle.tb_top.specs.declared.status.Status.TheVariants.{Done, Overload, TooLong, ReadFault, WriteFault, Memory}
+use Rattle.tb_top.specs.declared.words.Task.{Task}
+use Rattle.tb_top.specs.declared.words.Task.TheVariants.{Run}
+
+-- neither memory nor a file nor the output failed
+abbrev pub IsUndisturbed : Status → Type 0
+IsUndisturbed Memory = ⊥
+IsUndisturbed (TooLong f) = ⊥
+IsUndisturbed (ReadFault f) = ⊥
+IsUndisturbed WriteFault = ⊥
+IsUndisturbed _ = Unit {0}
+
+-- the status that tells of a slot that is over
+abbrev pub overload : Over → Status
+overload o = Overload o.slot o.need o.have
+
+-- the placement is accepted where each slot's shares fit its capacity times the factor, and else the first slot that is over is told
+pub record IsJudged (e : Experiment) (s : Status) : Type 0 where
+  pub accepted : Fits e (placed e) → (o : Over) → s ≡ overload o → ⊥
+  pub refused : ¬ Fits e (placed e) → (o : Over) × IsFirstOverload e (placed e) o × (s ≡ overload o)
+
+-- the records that some entries print of guest g are its trace in the synchronous system up to some virtual tick, at least t / factor. It is the count that was
+-- printed last of the guest, and what the units printed of it pay for, so the entries fix it
+pub record IsTraced (e : Experiment) (images : List (List ℕ)) (t g : ℕ) (es : List Entry) : Type 0 where
+  pub virtual_tick : ℕ
+  pub records : recs_of g es ≡ trace machine_motion (setup e images) g virtual_tick
+  pub far_enough : t / e.factor ≤ virtual_tick
+  pub counted : virtual_tick ≡ count_of g es
+  pub paid : virtual_tick ≡ ticks_by machine_motion (setup e images) g (units_of g es)
+
+-- of a run of n host ticks, out has taken the text of a journal. Its schedule is legal and comes to its end, and after every host tick each guest is traced
+pub record IsPrinted (w : World) (n : ℕ) (e : Experiment) : Type 0 where
+  pub images : List (List ℕ)
+  pub loaded : AreLoaded w.held e.guests.items images
+  pub head : Head
+  pub head_is : IsHead e n head
+  pub journal : List Entry
+  pub text : Takes w.taken.0 w.taken.1 (journal_text head journal)
+  pub schedule : IsComplete (run_rules e (placed e) images n) journal
+  pub traces : (t : ℕ) → t ≤ n → (g : ℕ) → g < length e.guests.items → IsTraced e images t g (up_to_tick t journal)
+
+-- of the experiment e in the file that the words name: the placement is accepted exactly where it fits; an accepted run whose images load and whose devices
+-- suffice is done; what it then printed; and what was printed where memory or the output failed, nothing or a first part of a legal journal or of the plan
+pub record Headline (w : World) (s : Status) : Type 0 where
+  pub accepted : (task : Task) (e : Experiment) → Asks w.words w.held task e → IsUndisturbed s → IsJudged e s
+  pub runs : (e : Experiment) → MayRun w.words w.held e → Suffices (length e.guests.items) w.stock.0 w.stock.1 → IsUndisturbed s → s ≡ Done
+  pub printed : (n : ℕ) (e : Experiment) → Asks w.words w.held (Run n) e → s ≡ Done → IsPrinted w n e
+  pub cut_short : (s ≡ Memory) ⊎ (s ≡ WriteFault) → Quiet w ⊎ IsPartPut w
