@@ -1,0 +1,26 @@
+-- What a contract sees of a disk server.
+use Rattle.std.specs.Prelude.{◌≡◌, ℕ, ◌+◌, ◌*◌, ◌/◌, ◌^◌, ◌≤◌, List, min, max}
+use Rattle.disk_model.specs.declared.disk_params.DiskParams.{DiskParams}
+use Rattle.disk_model.specs.Service.{Place, Request, disk_at, distance}
+
+pub record Server : Type 0 where
+  pub costs : DiskParams
+  pub place : Place
+
+-- the limits of what a disk may cost
+abbrev pub CostsInLimits : DiskParams → Type 0
+CostsInLimits p = (1 ≤ p.base) × (p.base ≤ 1000000) × (p.seek_num ≤ 1000000) × (1 ≤ p.seek_den) × (p.seek_den ≤ 1000000) × (p.per_sector ≤ 1000000)
+
+-- the server stands for this list of requests
+abbrev pub StandsFor : Server → List Request → Type 0
+StandsFor s h = s.place ≡ disk_at s.costs h
+
+-- the server after one more request, from what it holds alone
+unfoldable pub admitted : Server → ℕ → ℕ → ℕ → Server
+admitted s n sector count = record {
+  costs = s.costs;
+  place = record {
+    head = sector + count;
+    free = min (max n s.place.free + (s.costs.base + distance sector s.place.head * s.costs.seek_num / s.costs.seek_den + s.costs.per_sector * count)) (2 ^ 63);
+  };
+}
