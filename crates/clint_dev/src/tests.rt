@@ -1,10 +1,8 @@
 //! Accesses and lines of a Clint.
 use crate::Clint;
 use dev_face::{DevConfig, Device, StoreDone};
-use guest_ram::Ram;
 use std::test::Fail;
-use tb_base::{ItemList, Width};
-use trace_rec::Log;
+use tb_base::Width;
 
 #[test]
 fn the_timer_is_up_from_mtimecmp_on(rt: HostRuntime) -> Result<(), Fail> {
@@ -14,6 +12,9 @@ fn the_timer_is_up_from_mtimecmp_on(rt: HostRuntime) -> Result<(), Fail> {
     assert_eq!(rt; clint.next_due(), Some(u64::MAX));
     assert!(rt; clint.store(0, 0x4000, Width::Word, 3) == StoreDone::Done);
     assert!(rt; clint.store(0, 0x4004, Width::Word, 0) == StoreDone::Done);
+    assert_eq!(rt; clint.next_due(), Some(3));
+    assert!(rt; clint.end_idle());
+    clint.skip_to(3);
     assert_eq!(rt; clint.next_due(), Some(3));
     for (now, up) in [(0, false), (2, false), (3, true), (4, true)] {
         assert_eq!(rt; clint.lines(now).timer, up, "at {now}");
@@ -41,23 +42,5 @@ fn only_words_are_there(rt: HostRuntime) -> Result<(), Fail> {
     ] {
         assert_eq!(rt; clint.load(0x2_0000_0007, off, width), want, "at {off:x}");
     }
-    Ok(())
-}
-
-#[test]
-fn a_timer_in_the_past_is_not_due(rt: HostRuntime) -> Result<(), Fail> {
-    let alloc = rt.alloc();
-    let mut ram = Ram::new(alloc, 4096)?;
-    let mut frames = ItemList::new(alloc);
-    let mut log = Log::new(alloc);
-    let mut clint = Clint::new(alloc);
-    clint.set_up(&DevConfig::Clint)?;
-    assert!(rt; clint.store(0, 0x4000, Width::Word, 0) == StoreDone::Done);
-    assert!(rt; clint.store(0, 0x4004, Width::Word, 0) == StoreDone::Done);
-    assert_eq!(rt; clint.next_due(), Some(0));
-    clint.begin_tick(0, &mut ram, &mut frames, &mut log)?;
-    assert_eq!(rt; clint.next_due(), None);
-    clint.end_tick(0, &mut ram, &mut frames, &mut log)?;
-    assert!(rt; clint.lines(1).timer);
     Ok(())
 }

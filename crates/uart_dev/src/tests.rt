@@ -1,10 +1,8 @@
 //! Accesses of a Uart.
 use crate::Uart;
 use dev_face::{DevConfig, Device, StoreDone};
-use guest_ram::Ram;
 use std::test::Fail;
-use tb_base::{ItemList, Width};
-use trace_rec::Log;
+use tb_base::Width;
 
 #[test]
 fn a_byte_is_sent_and_all_else_ignored(rt: HostRuntime) -> Result<(), Fail> {
@@ -23,20 +21,7 @@ fn a_byte_is_sent_and_all_else_ignored(rt: HostRuntime) -> Result<(), Fail> {
         assert_eq!(rt; uart.load(0, off, width), want, "at {off}");
     }
     assert_eq!(rt; uart.next_due(), None);
-    Ok(())
-}
-
-#[test]
-fn a_tick_changes_nothing_else(rt: HostRuntime) -> Result<(), Fail> {
-    let alloc = rt.alloc();
-    let mut ram = Ram::new(alloc, 4096)?;
-    let mut frames = ItemList::new(alloc);
-    let mut log = Log::new(alloc);
-    let mut uart = Uart::new(alloc);
-    uart.set_up(&DevConfig::Uart)?;
-    uart.begin_tick(0, &mut ram, &mut frames, &mut log)?;
-    assert!(rt; !uart.lines(0).external);
-    uart.end_tick(0, &mut ram, &mut frames, &mut log)?;
-    assert_eq!(rt; (frames.len(), log.len()), (0, 0));
+    assert!(rt; uart.end_idle() && !uart.lines(0).external);
+    uart.skip_to(7);
     Ok(())
 }

@@ -1,7 +1,7 @@
 use Rattle.std.proofs.Common.{rules, ◌≡◌, true, sym, ◌∙◌}
 use Rattle.dev_face.specs.States.{IsSetUp}
 use Rattle.dev_list.proofs.Listed.{holds_there}
-use Rattle.dev_list.proofs.Skipped.{idle_more, idle_not}
+use Rattle.dev_list.proofs.Skipped.{idle_more}
 use Rattle.dev_list.proofs.quiet.end_idle_all.Goals as goal
 
 pub end_idle-requires : goal.end_idle-requires

@@ -1,6 +1,6 @@
-use Rattle.std.proofs.Common.{◌≡◌, [], All, rules, map, ap, sym, ◌∙◌, subst, get_or, refl}
+use Rattle.std.proofs.Common.{[], All, rules, map, ap, sym, ◌∙◌, subst, get_or, refl}
 use Rattle.std.proofs.lemmas.List.{length-map}
-use Rattle.dev_face.specs.States.{IsSetUp, at_coming}
+use Rattle.dev_face.specs.States.{IsSetUp}
 use Rattle.dev_face.specs.Calls.{MaySkip}
 use Rattle.dev_list.proofs.Skipped.{skip_one, skip_walk, set_up_all}
 use Rattle.dev_list.proofs.Walking.{along_start, along_more, along_end, still_there}

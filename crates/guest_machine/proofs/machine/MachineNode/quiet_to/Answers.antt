@@ -1,4 +1,4 @@
-use Rattle.std.proofs.Common.{◌≡◌, ◌≤◌, ◌^◌, max, sym, subst}
+use Rattle.std.proofs.Common.{◌≤◌, ◌^◌, max, sym, subst}
 use Rattle.lookahead_core.specs.Quiet.{IsQuietTo}
 use Rattle.guest_machine.specs.MachineView.{machine_state}
 use Rattle.guest_machine.specs.Tick.{machine_motion}

@@ -1,5 +1,5 @@
-use Rattle.std.proofs.Common.{◌≡◌, ◌<◌, ◌≤◌, ◌*◌, ◌-◌, ◌^◌, ℕ, All, map, length, true, false, ap, sym, ◌∙◌, subst, arith}
-use Rattle.dev_face.specs.States.{IsComing, at_coming}
+use Rattle.std.proofs.Common.{◌≡◌, ◌≤◌, ◌*◌, ◌-◌, All, length, false, ap, sym, ◌∙◌, subst, arith}
+use Rattle.dev_face.specs.States.{IsComing}
 use Rattle.dev_list.proofs.Skipped.{coming_all}
 use Rattle.rv_exec.specs.HartState.{HartState}
 use Rattle.guest_machine.specs.MachineView.{machine_state}
