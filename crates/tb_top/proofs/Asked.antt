@@ -10,7 +10,7 @@ use Rattle.tb_top.specs.declared.words.Task.{Task}
 use Rattle.tb_top.specs.declared.words.Task.TheVariants.{Run, Plan}
 use Rattle.tb_top.specs.declared.words.WordFault.{WordFault}
 use Rattle.tb_top.specs.declared.words.WordFault.TheVariants.{NotWords, EmptyName, BadNumber}
-use Rattle.tb_top.specs.Ends.{World, Asks, Commanded, FileRead, IsTooLong}
+use Rattle.tb_top.specs.Ends.{World, Asks, Commanded, FileRead, WellFormed, IsTooLong}
 use Rattle.tb_top.specs.Reads.{IsRead, Says}
 use Rattle.tb_top.specs.Words.{IsRun, IsPlan, IsCommand, IsWithinLimit, Gives}
 
@@ -77,9 +77,9 @@ told_is : (w : World) (t u : Task) (e : Experiment) (asks : Asks w.words w.held 
 told_is w t u e asks name command = ap w.held (sym (command_file w.words name u command) ∙ command_file w.words asks.name t asks.command) ∙ asks.told
 
 pub file_short : (w : World) (t : Task) (e : Experiment) (asks : Asks w.words w.held t e) → Commanded w (λ name u. IsTooLong w EXPERIMENT_FILE name) → ⊥
-file_short w t e asks (name, (u, command, long)) =
+file_short w t e asks h =
     let limit = asks.limit in
-    let more : EXPERIMENT_FILE < length asks.bytes = of_told (λ b. EXPERIMENT_FILE < length b) (w.held name) asks.bytes (told_is w t u e asks name command) long in
+    let more : EXPERIMENT_FILE < length asks.bytes = of_told (λ b. EXPERIMENT_FILE < length b) (w.held h.0) asks.bytes (told_is w t h.1.0 e asks h.0 h.1.1) h.1.2 in
     omega (arith, limit, more)
 
 says_it : (w : World) (t u : Task) (e : Experiment) (asks : Asks w.words w.held t e) (name b : List ℕ) → IsCommand w.words name u → IsRead (w.held name) EXPERIMENT_FILE b → Says b e
@@ -88,9 +88,22 @@ says_it w t u e asks name b command read =
     subst (λ (z : List ℕ). Says z e) (sym same) asks.says
 
 pub refused_not : (w : World) (t : Task) (e : Experiment) (f : ExpFault) → Asks w.words w.held t e → FileRead w (λ u b. reading b ≡ Err f) → ⊥
-refused_not w t e f asks (name, (u, command, (b, read, says))) = ok_not_err (says_it w t u e asks name b command read) says
+refused_not w t e f asks h = ok_not_err (says_it w t h.1.0 e asks h.0 h.1.2.0 h.1.1 h.1.2.1) h.1.2.2
+
+-- what a command came to whose file says an experiment
+pub record IsSaid (w : World) (P : Task → Experiment → Type 0) : Type 0 where
+  pub name : List ℕ
+  pub task : Task
+  pub command : IsCommand w.words name task
+  pub bytes : List ℕ
+  pub read : IsRead (w.held name) EXPERIMENT_FILE bytes
+  pub experiment : Experiment
+  pub says : Says bytes experiment
+  pub holds : P task experiment
+
+pub said : (w : World) (P : Task → Experiment → Type 0) → WellFormed w P → IsSaid w P
+said w P h = record { name = h.0; task = h.1.0; command = h.1.1; bytes = h.1.2.0; read = h.1.2.1; experiment = h.1.2.2.0; says = h.1.2.2.1; holds = h.1.2.2.2 }
 
 -- the experiment is the one that the file says
-pub says_same : (w : World) (t u : Task) (e f : Experiment) (asks : Asks w.words w.held t e) (name b : List ℕ) → IsCommand w.words name u → IsRead (w.held name) EXPERIMENT_FILE b → Says b f
-    → without_room f ≡ without_room e
-says_same w t u e f asks name b command read says = ok_is says (says_it w t u e asks name b command read)
+pub says_same : (w : World) (t : Task) (e : Experiment) (P : Task → Experiment → Type 0) → Asks w.words w.held t e → (k : IsSaid w P) → without_room e ≡ without_room k.experiment
+says_same w t e P asks k = ok_is (says_it w t k.task e asks k.name k.bytes k.command k.read) k.says

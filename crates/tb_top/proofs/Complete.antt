@@ -21,7 +21,7 @@ use Rattle.tb_top.specs.Ends.{World, Ends, MayRun, WellFormed, AtImage, IsTooLon
 use Rattle.tb_top.specs.Headline.{IsUndisturbed}
 use Rattle.tb_top.specs.Loads.{IsRefused}
 use Rattle.tb_top.specs.declared.words.Task.TheVariants.{Run}
-use Rattle.tb_top.proofs.Asked.{of_told, ok_not_err, usage_not, file_short, refused_not, says_same}
+use Rattle.tb_top.proofs.Asked.{of_told, ok_not_err, usage_not, file_short, refused_not, said, says_same}
 use Rattle.tb_top.proofs.Room.{fits_room}
 
 pub no_overload : (e : Experiment) (p : List ℕ) (o : Overload) → Fits e p → IsFirstOverload e p o → ⊥
@@ -30,16 +30,18 @@ no_overload e p o fits over =
     omega (arith, low, over.needs, over.has, over.over)
 
 overload_not : (w : World) (e : Experiment) (o : Overload) → MayRun w.words w.held e → WellFormed w (λ t f. IsFirstOverload f (placed f) o × PutsOver w t f) → ⊥
-overload_not w e o may (name, (t, command, (b, read, (f, says, (over, puts))))) =
-    no_overload f (placed f) o (fits_room e f (says_same w (Run may.host_ticks) t e f may.asks name b command read says) may.fits) over
+overload_not w e o may over =
+    let k = said w _ over in
+    no_overload k.experiment (placed k.experiment) o (fits_room e k.experiment (sym (says_same w (Run may.host_ticks) e _ may.asks k)) may.fits) k.holds.0
 
 -- a guest at whose image the command stopped is a guest of the run, whose image is told and short
 at_image : (w : World) (e : Experiment) (i : ℕ) (P : GuestSpec → Type 0) → MayRun w.words w.held e → AtImage w i P
     → (g : GuestSpec) × P g × (b : List ℕ) × (w.held g.image ≡ Some b) × (length b ≤ IMAGE_FILE) × IsTaken g b
-at_image w e i P may (name, (t, command, (b, read, (f, says, (fits, (run, stops)))))) =
-    let same : f.guests.items ≡ e.guests.items = ap (λ (x : Experiment). x.guests.items) (says_same w (Run may.host_ticks) t e f may.asks name b command read says) in
-    let at : slice_get e.guests.items i ≡ Some stops.guest = subst (λ (gs : List GuestSpec). slice_get gs i ≡ Some stops.guest) same stops.at in
-    let told = may.images i stops.guest at in
+at_image w e i P may at =
+    let k = said w _ at in
+    let stops = k.holds.1.1 in
+    let same : k.experiment.guests.items ≡ e.guests.items = ap (λ (x : Experiment). x.guests.items) (sym (says_same w (Run may.host_ticks) e _ may.asks k)) in
+    let told = may.images i stops.guest (subst (λ (gs : List GuestSpec). slice_get gs i ≡ Some stops.guest) same stops.at) in
     (stops.guest, stops.why, told.0, told.1, told.2, told.3)
 
 -- what an image would have to be
@@ -69,10 +71,14 @@ fewer_not n m have same enough fewer = omega (arith, same, enough, fewer)
 
 supplied : (w : World) (e : Experiment) (k : Kind) (wanted had : ℕ) → MayRun w.words w.held e → Suffices (length e.guests.items) w.stock.0 w.stock.1
     → Unsupplied w (build.NoDevice k wanted had) → ⊥
-supplied w e kind.Clint wanted had may enough (name, (t, command, (b, read, (f, says, (fits, (run, (images, loaded, short))))))) =
-    fewer_not (length f.guests.items) (length e.guests.items) w.stock.0 (ap (λ (x : Experiment). length x.guests.items) (says_same w (Run may.host_ticks) t e f may.asks name b command read says)) enough.clints_suffice short.2
-supplied w e kind.Uart wanted had may enough (name, (t, command, (b, read, (f, says, (fits, (run, (images, loaded, short))))))) =
-    fewer_not (length f.guests.items) (length e.guests.items) w.stock.1 (ap (λ (x : Experiment). length x.guests.items) (says_same w (Run may.host_ticks) t e f may.asks name b command read says)) enough.uarts_suffice short.2
+supplied w e kind.Clint wanted had may enough short =
+    let k = said w _ short in
+    fewer_not (length k.experiment.guests.items) (length e.guests.items) w.stock.0 (sym (ap (λ (x : Experiment). length x.guests.items) (says_same w (Run may.host_ticks) e _ may.asks k)))
+    enough.clints_suffice k.holds.1.1.2.2
+supplied w e kind.Uart wanted had may enough short =
+    let k = said w _ short in
+    fewer_not (length k.experiment.guests.items) (length e.guests.items) w.stock.1 (sym (ap (λ (x : Experiment). length x.guests.items) (says_same w (Run may.host_ticks) e _ may.asks k)))
+    enough.uarts_suffice k.holds.1.1.2.2
 
 -- where neither memory nor a file nor the output failed, the run is done
 pub done_undisturbed : (w : World) (s : Status) (e : Experiment) → Ends w s → MayRun w.words w.held e → Suffices (length e.guests.items) w.stock.0 w.stock.1 → IsUndisturbed s → s ≡ Done
@@ -95,8 +101,8 @@ completes w WriteFault e (rose, part) may enough files out = absurd (out rose)
 completes w (TooLong file.Experiment) e (quiet, long) may enough files out = absurd (file_short w (Run may.host_ticks) e may.asks long)
 completes w (TooLong (file.Image i)) e (quiet, at) may enough files out = absurd (image_short w e i may at)
 completes w (TooLong (file.Disk i)) e ends may enough files out = absurd ends
-completes w (ReadFault file.Experiment) e (quiet, (name, (t, command, (rose, is)))) may enough files out = absurd (files rose)
-completes w (ReadFault (file.Image i)) e (quiet, (name, (t, command, (b, read, (f, says, (fits, (run, stops))))))) may enough files out = absurd (files stops.why.0)
+completes w (ReadFault file.Experiment) e (quiet, failed) may enough files out = absurd (files failed.1.2.0)
+completes w (ReadFault (file.Image i)) e (quiet, at) may enough files out = absurd (files (said w _ at).holds.1.1.why.0)
 completes w (ReadFault (file.Disk i)) e ends may enough files out = absurd ends
 completes w Done e ends may enough files out = inl refl
 completes w (Usage f) e ends may enough files out = inl (done_undisturbed w (Usage f) e ends may enough tt)

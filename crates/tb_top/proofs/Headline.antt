@@ -2,7 +2,6 @@
 use Rattle.std.proofs.Common.{◌≡◌, ℕ, ◌<◌, ◌≤◌, ◌⊎◌, List, length, Option, inl, inr, refl, sym, ap, ◌∙◌, subst, arith}
 use Rattle.std.specs.Fmt.{decimal}
 use Rattle.std.proofs.lemmas.Fmt.{decimal_injective}
-use Rattle.tb_base.specs.declared.limits.TheConstants.{EXPERIMENT_FILE}
 use Rattle.exp_file.specs.Lists.{without_room}
 use Rattle.exp_file.specs.declared.experiment.Experiment.{Experiment}
 use Rattle.host_plan.specs.declared.overload.Overload.{Overload}
@@ -18,14 +17,13 @@ use Rattle.bench_build.specs.declared.build_fault.BuildFault.{BuildFault}
 use Rattle.bench_build.specs.declared.build_fault.BuildFault.TheVariants as build
 use Rattle.tb_top.specs.Ends.{World, Ends, Asks, Placed, Loaded, PutsTask, Quiet, IsPartPut}
 use Rattle.tb_top.specs.Headline.{IsUndisturbed, overload, IsJudged, IsTraced, IsPrinted, Headline}
-use Rattle.tb_top.specs.Reads.{IsRead, Says, AreLoaded}
 use Rattle.tb_top.specs.Runs.{PutsAll}
 use Rattle.tb_top.specs.Words.{IsCommand}
 use Rattle.tb_top.specs.declared.status.Status.{Status}
 use Rattle.tb_top.specs.declared.status.Status.TheVariants.{Done, Overload as Over, Usage, Experiment as Refused, Build, TooLong, ReadFault, WriteFault, Memory}
 use Rattle.tb_top.specs.declared.words.Task.{Task}
 use Rattle.tb_top.specs.declared.words.Task.TheVariants.{Run, Plan}
-use Rattle.tb_top.proofs.Asked.{run_no_plan, run_number, usage_not, refused_not, says_same}
+use Rattle.tb_top.proofs.Asked.{run_no_plan, run_number, usage_not, refused_not, said, says_same}
 use Rattle.tb_top.proofs.Complete.{no_overload, done_undisturbed}
 use Rattle.tb_top.proofs.Room.{fits_room, overload_room, run_room}
 
@@ -38,7 +36,9 @@ judged_over e o over = record { accepted = λ fits p same. no_overload e (placed
 
 -- what fits of the experiment that was read fits of the one that the file says
 placed_fits : (w : World) (t : Task) (e : Experiment) (P : Task → Experiment → Type 0) → Asks w.words w.held t e → Placed w P → Fits e (placed e)
-placed_fits w t e P asks (name, (u, command, (b, read, (f, says, (fits, p))))) = fits_room f e (sym (says_same w t u e f asks name b command read says)) fits
+placed_fits w t e P asks placed_well =
+    let k = said w _ placed_well in
+    fits_room k.experiment e (says_same w t e _ asks k) k.holds.0
 
 done_over : (o : Overload) → Done ≡ overload o → ⊥
 done_over o h = cc h
@@ -48,9 +48,10 @@ build_over f o h = cc h
 
 judged : (w : World) (s : Status) (t : Task) (e : Experiment) → Ends w s → Asks w.words w.held t e → IsUndisturbed s → IsJudged e s
 judged w Done t e ends asks calm = judged_fit e Done (placed_fits w t e (PutsTask w) asks ends) done_over
-judged w (Over slot need have) t e (name, (u, command, (b, read, (f, says, (over, puts))))) asks calm =
+judged w (Over slot need have) t e over asks calm =
     let o : Overload = record { slot = slot; need = need; have = have } in
-    judged_over e o (overload_room o f e (sym (says_same w t u e f asks name b command read says)) over)
+    let k = said w _ over in
+    judged_over e o (overload_room o k.experiment e (says_same w t e _ asks k) k.holds.0)
 judged w (Build (build.Image i fault)) t e (quiet, at) asks calm = judged_fit e _ (placed_fits w t e _ asks at) (build_over _)
 judged w (Build (build.NoDevice kind wanted had)) t e (quiet, short) asks calm = judged_fit e _ (placed_fits w t e _ asks short) (build_over _)
 judged w (Build build.NoMemory) t e ends asks calm = absurd ends
@@ -82,11 +83,10 @@ same_ticks w m n name file c d =
     let few' = d.limit in
     decimal_injective m n (omega (arith, few)) (omega (arith, few')) (run_number w.words name file (decimal m) (decimal n) c.form d.form)
 
-puts_task : (w : World) (n : ℕ) (e f : Experiment) (t : Task) → (asks : Asks w.words w.held (Run n) e) → (name b : List ℕ) → IsCommand w.words name t → IsRead (w.held name) EXPERIMENT_FILE b → Says b f
+puts_task : (w : World) (n : ℕ) (e f : Experiment) (t : Task) (name : List ℕ) → Asks w.words w.held (Run n) e → IsCommand w.words name t → without_room e ≡ without_room f
     → PutsTask w t f → Loaded w e (λ images. PutsAll e (placed e) images n w.taken.0 w.taken.1)
-puts_task w n e f Plan asks name b command read says puts = absurd (run_no_plan w.words asks.name name (decimal n) asks.command.form command.form)
-puts_task w n e f (Run m) asks name b command read says (images, loaded, (enough, puts)) =
-    let same : without_room e ≡ without_room f = sym (says_same w (Run n) (Run m) e f asks name b command read says) in
+puts_task w n e f Plan name asks command same puts = absurd (run_no_plan w.words asks.name name (decimal n) asks.command.form command.form)
+puts_task w n e f (Run m) name asks command same (images, loaded, (enough, puts)) =
     run_room w.held n w.taken.0 w.taken.1 f e same
     (images, loaded, subst (λ (k : ℕ). PutsAll f (placed f) images k w.taken.0 w.taken.1) (same_ticks w m n name asks.name command asks.command) puts)
 
@@ -103,7 +103,9 @@ printed_all w n e (images, loaded, (h, head, (j, complete, text))) = record {
 }
 
 printed : (w : World) (n : ℕ) (e : Experiment) → Asks w.words w.held (Run n) e → Ends w Done → IsPrinted w n e
-printed w n e asks (name, (t, command, (b, read, (f, says, (fits, puts))))) = printed_all w n e (puts_task w n e f t asks name b command read says puts)
+printed w n e asks ends =
+    let k = said w _ ends in
+    printed_all w n e (puts_task w n e k.experiment k.task k.name asks k.command (says_same w (Run n) e _ asks k) k.holds.1)
 
 cut_short : (w : World) (s : Status) → Ends w s → (s ≡ Memory) ⊎ (s ≡ WriteFault) → Quiet w ⊎ IsPartPut w
 cut_short w s ends (inl memory) = let P : Status → Type 0 = Ends w in subst P memory ends

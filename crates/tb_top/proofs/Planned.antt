@@ -2,6 +2,7 @@
 use Rattle.std.proofs.Common.{◌≡◌, ℕ, ◌⊎◌, false, List, Option, inl, inr, sym, subst}
 use Rattle.tb_base.specs.declared.limits.TheConstants.{EXPERIMENT_FILE}
 use Rattle.tb_io.specs.Causes.{Rose}
+use Rattle.exp_file.specs.Lists.{without_room}
 use Rattle.exp_file.specs.declared.experiment.Experiment.{Experiment}
 use Rattle.host_plan.specs.Placing.{placed}
 use Rattle.plan_text.specs.Puts.{PutsPlan, PutsPlanPart}
@@ -12,12 +13,12 @@ use Rattle.tb_top.specs.declared.status.Status.{Status}
 use Rattle.tb_top.specs.declared.status.Status.TheVariants.{Done, Overload as Over, Usage, Experiment as Refused, Build, TooLong, ReadFault, WriteFault, Memory}
 use Rattle.tb_top.specs.declared.words.Task.{Task}
 use Rattle.tb_top.specs.declared.words.Task.TheVariants.{Run, Plan}
-use Rattle.tb_top.specs.Ends.{World, Ends, Asks, WellFormed, IsToRun, PutsTask, PutsTaskPart, PutsOver}
+use Rattle.tb_top.specs.Ends.{World, Ends, Asks, WellFormed, Placed, IsToRun, PutsTask, PutsTaskPart, PutsOver}
 use Rattle.tb_top.specs.Lines.{is_done}
 use Rattle.tb_top.specs.Plans.{Plans}
 use Rattle.tb_top.specs.Reads.{IsRead, Says}
 use Rattle.tb_top.specs.Words.{IsCommand, IsPlanOf}
-use Rattle.tb_top.proofs.Asked.{run_no_plan, usage_not, file_short, refused_not, says_same}
+use Rattle.tb_top.proofs.Asked.{run_no_plan, usage_not, file_short, refused_not, said, says_same}
 use Rattle.tb_top.proofs.Putting.{part_of}
 use Rattle.tb_top.proofs.Room.{fits_room, overload_room, puts_room, part_room}
 
@@ -49,7 +50,9 @@ over_memory w e name b Plan command read says puts = inr (name, (Plan, command, 
 
 ends_memory : (w : World) (s : Status) → is_done s ≡ false → Ends w s → Ends w Memory
 ends_memory w Done not ends = absurd (cc not)
-ends_memory w (Over slot need have) not (name, (t, command, (b, read, (e, says, (over, puts))))) = over_memory w e name b t command read says puts
+ends_memory w (Over slot need have) not over =
+    let k = said w _ over in
+    over_memory w k.experiment k.name k.bytes k.task k.command k.read k.says k.holds.1
 ends_memory w WriteFault not (rose, part) = inr part
 ends_memory w Memory not ends = ends
 ends_memory w (Usage f) not (quiet, h) = inl quiet
@@ -71,38 +74,52 @@ ends_told w s r (inr (memory, not)) ends = subst (λ (z : Status). Ends w z) (sy
 
 -- what out has taken, of the experiment that the file says
 module _ (w : World) (e : Experiment) (asks : Asks w.words w.held Plan e) where
-  done_plan : (f : Experiment) (name b : List ℕ) (t : Task) → IsCommand w.words name t → IsRead (w.held name) EXPERIMENT_FILE b → Says b f → PutsTask w t f → PutsPlan e (placed e) w.taken.0 w.taken.1
-  done_plan f name b (Run n) command read says puts = absurd (run_no_plan w.words name asks.name _ command.form asks.command.form)
-  done_plan f name b Plan command read says puts = puts_room w.taken.0 w.taken.1 f e (sym (says_same w Plan Plan e f asks name b command read says)) puts
+  done_plan : (f : Experiment) (name : List ℕ) (t : Task) → IsCommand w.words name t → without_room e ≡ without_room f → PutsTask w t f → PutsPlan e (placed e) w.taken.0 w.taken.1
+  done_plan f name (Run n) command same puts = absurd (run_no_plan w.words name asks.name _ command.form asks.command.form)
+  done_plan f name Plan command same puts = puts_room w.taken.0 w.taken.1 f e same puts
 
-  over_plan : (f : Experiment) (name b : List ℕ) (t : Task) → IsCommand w.words name t → IsRead (w.held name) EXPERIMENT_FILE b → Says b f → PutsOver w t f → PutsPlan e (placed e) w.taken.0 w.taken.1
-  over_plan f name b (Run n) command read says puts = absurd (run_no_plan w.words name asks.name _ command.form asks.command.form)
-  over_plan f name b Plan command read says puts = puts_room w.taken.0 w.taken.1 f e (sym (says_same w Plan Plan e f asks name b command read says)) puts
+  over_plan : (f : Experiment) (name : List ℕ) (t : Task) → IsCommand w.words name t → without_room e ≡ without_room f → PutsOver w t f → PutsPlan e (placed e) w.taken.0 w.taken.1
+  over_plan f name (Run n) command same puts = absurd (run_no_plan w.words name asks.name _ command.form asks.command.form)
+  over_plan f name Plan command same puts = puts_room w.taken.0 w.taken.1 f e same puts
 
-  part_plan : (f : Experiment) (name b : List ℕ) (t : Task) → IsCommand w.words name t → IsRead (w.held name) EXPERIMENT_FILE b → Says b f → PutsTaskPart w t f → PutsPlanPart e (placed e) w.taken.0 w.taken.1
-  part_plan f name b (Run n) command read says puts = absurd (run_no_plan w.words name asks.name _ command.form asks.command.form)
-  part_plan f name b Plan command read says puts = part_room w.taken.0 w.taken.1 f e (sym (says_same w Plan Plan e f asks name b command read says)) puts
+  part_plan : (f : Experiment) (name : List ℕ) (t : Task) → IsCommand w.words name t → without_room e ≡ without_room f → PutsTaskPart w t f → PutsPlanPart e (placed e) w.taken.0 w.taken.1
+  part_plan f name (Run n) command same puts = absurd (run_no_plan w.words name asks.name _ command.form asks.command.form)
+  part_plan f name Plan command same puts = part_room w.taken.0 w.taken.1 f e same puts
 
-  no_image : (name : List ℕ) (t : Task) → IsCommand w.words name t → IsToRun t → ⊥
-  no_image name (Run n) command run = run_no_plan w.words name asks.name _ command.form asks.command.form
-  no_image name Plan command run = run
+  no_run : (name : List ℕ) (t : Task) → IsCommand w.words name t → IsToRun t → ⊥
+  no_run name (Run n) command run = run_no_plan w.words name asks.name _ command.form asks.command.form
+  no_run name Plan command run = run
+
+  -- nothing comes of a run's step, with whatever it leads to
+  no_step : (P : Task → Experiment → Type 0) → Placed w (λ t f. IsToRun t × P t f) → ⊥
+  no_step P step =
+      let k = said w _ step in
+      no_run k.name k.task k.command k.holds.1.0
 
   pub planned_ends : (s : Status) → Ends w s → ¬ Rose w.file_faults.0 w.file_faults.1 → Plans e (placed e) w.taken.0 w.taken.1 w.out_faults.0 w.out_faults.1 s
-  planned_ends Done (name, (t, command, (b, read, (f, says, (fits, puts))))) files =
-      (fits_room f e (sym (says_same w Plan t e f asks name b command read says)) fits, done_plan f name b t command read says puts)
-  planned_ends (Over slot need have) (name, (t, command, (b, read, (f, says, (over, puts))))) files =
-      (overload_room (record { slot = slot; need = need; have = have }) f e (sym (says_same w Plan t e f asks name b command read says)) over, over_plan f name b t command read says puts)
-  planned_ends WriteFault (rose, (name, (t, command, (b, read, (f, says, part))))) files = (rose, part_plan f name b t command read says part)
+  planned_ends Done ends files =
+      let k = said w _ ends in
+      let same = says_same w Plan e _ asks k in
+      (fits_room k.experiment e same k.holds.0, done_plan k.experiment k.name k.task k.command same k.holds.1)
+  planned_ends (Over slot need have) ends files =
+      let k = said w _ ends in
+      let same = says_same w Plan e _ asks k in
+      (overload_room (record { slot = slot; need = need; have = have }) k.experiment e same k.holds.0, over_plan k.experiment k.name k.task k.command same k.holds.1)
+  planned_ends WriteFault (rose, part) files =
+      let k = said w _ part in
+      (rose, part_plan k.experiment k.name k.task k.command (says_same w Plan e _ asks k) k.holds)
   planned_ends Memory (inl quiet) files = inl quiet
-  planned_ends Memory (inr (name, (t, command, (b, read, (f, says, part))))) files = inr (part_plan f name b t command read says part)
+  planned_ends Memory (inr part) files =
+      let k = said w _ part in
+      inr (part_plan k.experiment k.name k.task k.command (says_same w Plan e _ asks k) k.holds)
   planned_ends (Usage f) (quiet, gives) files = absurd (usage_not w Plan e f asks gives)
   planned_ends (Refused f) (quiet, read) files = absurd (refused_not w Plan e f asks read)
   planned_ends (TooLong file.Experiment) (quiet, long) files = absurd (file_short w Plan e asks long)
-  planned_ends (TooLong (file.Image i)) (quiet, (name, (t, command, (b, read, (f, says, (fits, (run, stops))))))) files = absurd (no_image name t command run)
+  planned_ends (TooLong (file.Image i)) (quiet, at) files = absurd (no_step _ at)
   planned_ends (TooLong (file.Disk i)) ends files = absurd ends
-  planned_ends (ReadFault file.Experiment) (quiet, (name, (t, command, (rose, is)))) files = absurd (files rose)
-  planned_ends (ReadFault (file.Image i)) (quiet, (name, (t, command, (b, read, (f, says, (fits, (run, stops))))))) files = absurd (no_image name t command run)
+  planned_ends (ReadFault file.Experiment) (quiet, failed) files = absurd (files failed.1.2.0)
+  planned_ends (ReadFault (file.Image i)) (quiet, at) files = absurd (no_step _ at)
   planned_ends (ReadFault (file.Disk i)) ends files = absurd ends
-  planned_ends (Build (build.Image i fault)) (quiet, (name, (t, command, (b, read, (f, says, (fits, (run, stops))))))) files = absurd (no_image name t command run)
-  planned_ends (Build (build.NoDevice kind wanted had)) (quiet, (name, (t, command, (b, read, (f, says, (fits, (run, short))))))) files = absurd (no_image name t command run)
+  planned_ends (Build (build.Image i fault)) (quiet, at) files = absurd (no_step _ at)
+  planned_ends (Build (build.NoDevice kind wanted had)) (quiet, short) files = absurd (no_step _ short)
   planned_ends (Build build.NoMemory) ends files = absurd ends

@@ -7,7 +7,7 @@ use tb_base::Bytes;
 use tb_io::{Files, ReadErr};
 
 /// Why a file gave no bytes.
-#[derive(Clone, Copy, Debug)]
+#[derive(Clone, Copy)]
 pub(crate) enum Missed {
     Failed,
     TooLong,

@@ -12,7 +12,7 @@ use tb_base::limits::IMAGE_FILE;
 use tb_io::Files;
 
 /// Why the images were not all taken.
-#[derive(Clone, Copy, Debug)]
+#[derive(Clone, Copy)]
 pub(crate) enum LoadErr {
     /// The image file of this guest gave no bytes.
     Missed(u32, Missed),

@@ -18,7 +18,7 @@ use tb_base::{ItemList, Name, NoMemory};
 use tb_io::Sink;
 
 /// Why a run was cut short.
-#[derive(Clone, Copy, Debug)]
+#[derive(Clone, Copy)]
 pub(crate) enum RunErr {
     NoMemory,
     /// A put failed.

@@ -7,7 +7,7 @@ use tb_base::limits::HOST_TICKS;
 use tb_text::read_dec;
 
 /// What is done with an experiment.
-#[derive(Clone, Copy, Debug)]
+#[derive(Clone, Copy)]
 pub(crate) enum Task {
     /// It is run for so many host ticks.
     Run { host_ticks: u64 },
@@ -16,7 +16,7 @@ pub(crate) enum Task {
 }
 
 /// What the words ask for: a task with the experiment in a file.
-#[derive(Clone, Copy, Debug)]
+#[derive(Clone, Copy)]
 pub(crate) struct Command<'a> {
     pub file: &'a str,
     pub task: Task,
