@@ -1,11 +1,21 @@
 //! Commands with boxes of the program's own.
-ghost use Rattle.std.specs.Prelude.{◌≡◌, All, map, OnOk};
+ghost use Rattle.std.specs.Prelude.{◌≡◌, ◌≢◌, ◌⊎◌, ◌+◌, ℕ, All, map, length, string_bytes, OnOk, IfOk};
+ghost use Rattle.tb_io.specs.Causes.{Rose};
+ghost use Rattle.exp_file.specs.declared.experiment.Experiment.{Experiment};
+ghost use Rattle.host_plan.specs.Placing.{placed};
 ghost use Rattle.dev_face.specs.States.{IsBlankFor};
+ghost use Rattle.dev_face.specs.declared.kind.Kind.{Kind};
+ghost use Rattle.bench_build.specs.declared.build_fault.BuildFault.TheVariants as build;
+ghost use Rattle.tb_top.specs.Ends.{Ends, world, MayRun};
+ghost use Rattle.tb_top.specs.Lines.{Told};
+ghost use Rattle.tb_top.specs.Plans.{Plans};
+ghost use Rattle.diecast.specs.Asked.{AsksPlan};
 
 use clint_dev::Clint;
 use dev_face::{DevConfig, Device};
 use std::alloc::Global;
 use tb_base::NoMemory;
+use tb_base::limits::GUESTS;
 use tb_io::{Files, Sink};
 use tb_top::{Status, Stock, diecast};
 use uart_dev::Uart;
@@ -18,7 +28,8 @@ pub(crate) fn add<D: Device>(
 ) -> Result<(), NoMemory>
     requires list { All (IsBlankFor config.now) (map D.state list.old.items) }
     requires device { IsBlankFor config.now (D.state device) }
-    ensures { OnOk result (All (IsBlankFor config.now) (map D.state list.new.items)) }
+    ensures blank { OnOk result (All (IsBlankFor config.now) (map D.state list.new.items)) }
+    ensures one_more { OnOk result (length list.new.items ≡ length list.old.items + 1) }
 {
     match list.push(device) {
         Ok(()) => Ok(()),
@@ -26,34 +37,43 @@ pub(crate) fn add<D: Device>(
     }
 }
 
-/// Runs a command with so many boxes of each kind.
+/// Runs a command with boxes of each kind for as many guests as an experiment may have. It gives no
+/// status where there is no memory for the boxes.
 pub(crate) fn run_with<F: Files, O: Sink, M: Sink>(
     alloc: Global,
     words: &[String],
     files: &mut F,
     out: &mut O,
     msg: &mut M,
-    clint_count: usize,
-    uart_count: usize,
-) -> Result<Status, NoMemory> {
+) -> Result<Status, NoMemory>
+    ensures ends { IfOk result (Ends (world (map string_bytes words.now) (F.held files.old) (F.faults files.old) (F.faults files.new) (F.fault_name files.new) (O.taken out.old) (O.taken out.new) (O.faults out.old) (O.faults out.new) 32 32)) }
+
+    // There are boxes for each experiment that may run.
+    ensures complete { (e : Experiment) → MayRun (map string_bytes words.now) (F.held files.old) e
+        → ¬ Rose (F.faults files.old) (F.faults files.new) → ¬ Rose (O.faults out.old) (O.faults out.new) → IfOk result (λ status. (status ≡ Status.Done) ⊎ (status ≡ Status.Memory)) }
+    ensures planned { (e : Experiment) → AsksPlan (map string_bytes words.now) (F.held files.old) e
+        → ¬ Rose (F.faults files.old) (F.faults files.new) → IfOk result (Plans e (placed e) (O.taken out.old) (O.taken out.new) (O.faults out.old) (O.faults out.new)) }
+    ensures told { IfOk result (λ status. Told status (M.taken msg.old) (M.taken msg.new) (M.faults msg.old) (M.faults msg.new)) }
+
+    // No command asks for a device that is not there.
+    ensures supplied { (kind : Kind) (wanted had : ℕ) → IfOk result (λ status. status ≢ Status.Build (build.NoDevice kind wanted had)) }
+{
     let mut clints: Vec<Box<dyn Device>> = Vec::new(alloc);
     let mut uarts: Vec<Box<dyn Device>> = Vec::new(alloc);
-    for _ in 0..clint_count {
+    for _ in 0..GUESTS {
         let Ok(clint) = Box::new(alloc, Clint::new(alloc)) else {
             return Err(NoMemory);
         };
-        let boxed: Box<dyn Device> = clint;
-        match add(&mut clints, boxed, &DevConfig::Clint) {
-            Ok(()) => (),
-            Err(_) => return Err(NoMemory),
-        }
-    }
-    for _ in 0..uart_count {
         let Ok(uart) = Box::new(alloc, Uart::new(alloc)) else {
             return Err(NoMemory);
         };
-        let boxed: Box<dyn Device> = uart;
-        match add(&mut uarts, boxed, &DevConfig::Uart) {
+        let clint: Box<dyn Device> = clint;
+        let uart: Box<dyn Device> = uart;
+        match add(&mut clints, clint, &DevConfig::Clint) {
+            Ok(()) => (),
+            Err(_) => return Err(NoMemory),
+        }
+        match add(&mut uarts, uart, &DevConfig::Uart) {
             Ok(()) => (),
             Err(_) => return Err(NoMemory),
         }

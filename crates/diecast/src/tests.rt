@@ -1,186 +1,115 @@
 //! Whole commands over files and sinks in memory.
 use crate::boxes::run_with;
-use crate::code_of;
+use crate::ending::code_of;
+use cases::{CASES, Case, case_of};
 use std::alloc::Global;
+use std::fmt::Write;
 use std::test::Fail;
-use tb_io::{MemFiles, MemSink};
+use tb_io::MemSink;
+use watched::Watched;
 
+mod cases;
 mod counting;
 mod devices;
-mod files;
-mod several;
-mod steps;
-
-pub(crate) const JUMP: [u8; 4] = [0x6f, 0, 0, 0];
-
-/// What a command left: its exit status, what it put, and its message.
-#[derive(Drop)]
-pub(crate) struct Left {
-    pub code: u8,
-    pub out: MemSink,
-    pub msg: MemSink,
-}
-
-/// The experiment of one guest, with this factor, capacity and rate, and more keys of the guest.
-fn file(alloc: Global, factor: u64, capacity: u64, rate: u32, more: &str) -> Result<String, Fail> {
-    Ok(format!(in alloc;
-        "version = 1\nfactor = {factor}\n[[slot]]\ncapacity = {capacity}\n[[guest]]\nname = \"a\"\nimage = \"a.bin\"\nformat = \"flat\"\nram = 4096\nrate = {rate}\nslot = 0\n{more}"
-    )?)
-}
-
-/// Runs an experiment in the journal view over a sink.
-fn run(alloc: Global, text: &str, image: &[u8], ticks: &str, out: MemSink) -> Result<Left, Fail> {
-    let mut files = MemFiles::new(alloc);
-    files.add("a.toml", text.as_bytes())?;
-    files.add("a.bin", image)?;
-    command(alloc, &mut files, ticks, out)
-}
-
-fn command(alloc: Global, files: &mut MemFiles, ticks: &str, out: MemSink) -> Result<Left, Fail> {
-    let words = ["run", "a.toml", "--host-ticks", ticks, "--view", "journal"];
-    call(alloc, files, &words, out)
-}
+mod images;
+mod streams;
+mod watched;
 
 /// These words, each with its own memory.
-pub(crate) fn owned(alloc: Global, words: &[&str]) -> Result<Vec<String>, Fail> {
+pub(crate) fn owned(alloc: Global, words: &str) -> Result<Vec<String>, Fail> {
     let mut owned = Vec::new(alloc);
-    for word in words {
+    for word in words.split(' ') {
         owned.push(String::from_str(alloc, word)?)?;
     }
     Ok(owned)
 }
 
-/// Calls the top call with these words over a sink.
-pub(crate) fn call(
-    alloc: Global,
-    files: &mut MemFiles,
-    words: &[&str],
-    out: MemSink,
-) -> Result<Left, Fail> {
-    call_with(alloc, files, words, out, 4)
+/// Runs a command where `a.toml` holds a text and one put to the output, if there are so many, fails after three
+/// bytes, and reports how it ended. The message is put to a sink of so many bytes.
+fn report_of(alloc: Global, case: &Case<'_>, room: usize) -> Result<String, Fail> {
+    let words = owned(alloc, case.words)?;
+    let mut files = Watched::new(alloc, case.text)?;
+    let mut out = MemSink::new(alloc, 20_000)?;
+    let mut msg = MemSink::new(alloc, room)?;
+    out.fail_put(case.put, 3)?;
+    let status = run_with(alloc, &words, &mut files, &mut out, &mut msg)?;
+    let code = code_of(&status);
+    let reads = files.reads();
+    let lines = shown(alloc, out.bytes(), case.shown)?;
+    let message = str::from_utf8(msg.bytes())?;
+    Ok(format!(in alloc; "exit {code} after {reads} reads\n{lines}--\n{message}")?)
 }
 
-/// The same with a stock of four Clints and so many Uarts.
-pub(crate) fn call_with(
-    alloc: Global,
-    files: &mut MemFiles,
-    words: &[&str],
-    out: MemSink,
-    uarts: usize,
-) -> Result<Left, Fail> {
-    let words = owned(alloc, words)?;
-    let mut out = out;
-    let mut msg = MemSink::new(alloc, 200)?;
-    let status = run_with(alloc, &words, files, &mut out, &mut msg, 4, uarts)?;
-    Ok(Left {
-        code: code_of(&status),
-        out,
-        msg,
-    })
+/// All of a journal, or its records of the first four ticks, or its other lines.
+fn shown(alloc: Global, journal: &[u8], what: &str) -> Result<String, Fail> {
+    let text = str::from_utf8(journal)?;
+    if what == "all" {
+        return Ok(String::from_str(alloc, text)?);
+    }
+    let mut lines = String::new(alloc);
+    for line in text.lines() {
+        let is_record = line.contains(" instr ") || line.contains(" trap ");
+        if what == "records" && line.starts_with("4 ") {
+            break;
+        }
+        if is_record == (what == "records") {
+            lines.push_str(line)?;
+            lines.push('\n')?;
+        }
+    }
+    Ok(lines)
 }
 
-pub(crate) fn room(alloc: Global) -> Result<MemSink, Fail> {
-    Ok(MemSink::new(alloc, 2000)?)
-}
-
+/// Each command ends so, and does so where its message cannot be put.
 #[test]
-fn a_guest_that_jumps_in_place(rt: HostRuntime) -> Result<(), Fail> {
-    let wanted = b"diecast 1 factor 2 slots 1 guests 1 host 2\n\
-host 1\n\
-slot 0\n\
-run 0 units 1 done 0\n\
-host 2\n\
-slot 0\n\
-run 0 units 1 done 1\n\
-0 0 instr 80000000 0000006f\n\
-0 0 instr 80000000 0000006f\n\
-end 2\n";
+fn commands_end_as_the_table_says(rt: HostRuntime) -> Result<(), Fail> {
     let alloc = rt.alloc();
-    let left = run(alloc, &file(alloc, 2, 1, 2, "")?, &JUMP, "2", room(alloc)?)?;
-    assert_eq!(rt; left.code, 0);
-    assert_eq!(rt; left.out.bytes(), wanted.as_slice());
-    assert_eq!(rt; left.msg.bytes(), b"".as_slice());
-    Ok(())
-}
-
-#[test]
-fn a_failed_put_ends_the_run(rt: HostRuntime) -> Result<(), Fail> {
-    let wanted = b"diecast 1 factor 2 slots 1 guests 1 host 4\nhost 1\nslo";
-    let alloc = rt.alloc();
-    let mut out = room(alloc)?;
-    out.fail_put(3, 3)?;
-    let left = run(alloc, &file(alloc, 2, 1, 2, "")?, &JUMP, "4", out)?;
-    assert_eq!(rt; left.code, 6);
-    assert_eq!(rt; left.out.bytes(), wanted.as_slice());
-    assert_eq!(rt; left.msg.bytes(), b"diecast: write fault\n".as_slice());
-    Ok(())
-}
-
-#[test]
-fn what_is_refused_puts_nothing(rt: HostRuntime) -> Result<(), Fail> {
-    let alloc = rt.alloc();
-    for (rate, more, ticks, code, wanted) in [
-        (3, "", "4", 1, "diecast: overload: slot 0 needs 3, has 2\n"),
-        (2, "", "", 2, "diecast: usage: bad-number\n"),
-        (2, "", "04", 2, "diecast: usage: bad-number\n"),
-        (2, "", "1000001", 2, "diecast: usage: bad-number\n"),
-        (
-            2,
-            "nics = 1\n",
-            "4",
-            3,
-            "diecast: experiment: not-built top 0 -\n",
-        ),
-        (
-            2,
-            "color = 1\n",
-            "4",
-            3,
-            "diecast: experiment: unknown guest 0 color\n",
-        ),
-    ] {
-        let left = run(
-            alloc,
-            &file(alloc, 2, 1, rate, more)?,
-            &JUMP,
-            ticks,
-            room(alloc)?,
-        )?;
-        assert_eq!(rt; left.code, code);
-        assert_eq!(rt; left.out.bytes(), b"".as_slice());
-        assert_eq!(rt; left.msg.bytes(), wanted.as_bytes());
+    for text in CASES.split("==\n") {
+        let case = case_of(text)?;
+        let told = report_of(alloc, &case, 200)?;
+        let untold = report_of(alloc, &case, 0)?;
+        assert_eq!(rt; told.as_str(), case.report, "{text}");
+        assert!(rt; case.report.starts_with(untold.as_str()), "{text}");
     }
     Ok(())
 }
 
-#[test]
-fn an_image_that_is_missing_or_too_long(rt: HostRuntime) -> Result<(), Fail> {
-    let alloc = rt.alloc();
-    let text = file(alloc, 2, 1, 2, "")?;
-    let left = run(alloc, &text, &[0; 4097], "4", room(alloc)?)?;
-    assert_eq!(rt; left.code, 4);
-    assert_eq!(rt;
-        left.msg.bytes(),
-        b"diecast: image 0: too-long\n".as_slice()
-    );
-    let mut files = MemFiles::new(alloc);
-    files.add("a.toml", text.as_bytes())?;
-    let left = command(alloc, &mut files, "4", room(alloc)?)?;
-    assert_eq!(rt; left.code, 5);
-    assert_eq!(rt; left.out.bytes(), b"".as_slice());
-    assert_eq!(rt;
-        left.msg.bytes(),
-        b"diecast: read fault: image 0\n".as_slice()
-    );
-    Ok(())
+/// The experiment of so many guests on one slot, and the journal of its first host tick.
+fn crowd(alloc: Global, guests: u32) -> Result<(String, String), Fail> {
+    let mut text = format!(in alloc;
+        "version = 1\nfactor = 1\nslot = [{{ capacity = {guests} }}]\n"
+    )?;
+    let mut journal = format!(in alloc;
+        "diecast 1 factor 1 slots 1 guests {guests} host 1\nhost 1\nslot 0\n"
+    )?;
+    for guest in 0..guests {
+        write!(
+            text,
+            "[[guest]]\nname = 'g{guest}'\nimage = 'jump'\nformat = 'flat'\nram = 4096\nrate = 1\n"
+        )?;
+        write!(
+            journal,
+            "run {guest} units 1 done 1\n0 {guest} instr 80000000 0000006f\n"
+        )?;
+    }
+    journal.push_str("end 1\n")?;
+    Ok((text, journal))
 }
 
+/// There are boxes for as many guests as an experiment may have.
 #[test]
-fn a_run_of_no_host_ticks(rt: HostRuntime) -> Result<(), Fail> {
-    let wanted = b"diecast 1 factor 2 slots 1 guests 1 host 0\nend 0\n";
+fn thirty_two_guests(rt: HostRuntime) -> Result<(), Fail> {
     let alloc = rt.alloc();
-    let left = run(alloc, &file(alloc, 2, 1, 2, "")?, &JUMP, "0", room(alloc)?)?;
-    assert_eq!(rt; left.code, 0);
-    assert_eq!(rt; left.out.bytes(), wanted.as_slice());
+    let (text, journal) = crowd(alloc, 32)?;
+    let case = Case {
+        words: "run a.toml --host-ticks 1 --view journal",
+        put: 0,
+        shown: "all",
+        text: text.as_str(),
+        report: "",
+    };
+    let report = report_of(alloc, &case, 0)?;
+    let wanted = format!(in alloc; "exit 0 after 33 reads\n{journal}--\n")?;
+    assert_eq!(rt; report.as_str(), wanted.as_str());
     Ok(())
 }

@@ -1,5 +1,5 @@
 //! The files of the host: the trusted edge for what is read.
-ghost use Rattle.std.specs.Prelude.{◌≡◌, ◌≤◌, [], IfOk, vec_len, None};
+ghost use Rattle.std.specs.Prelude.{◌≡◌, ◌≤◌, ◌<◌, [], IfOk, IfSome, Err, length, vec_len, None};
 ghost use Rattle.tb_io.specs.Causes.{faults_after};
 ghost use Rattle.tb_io.specs.Reads.{Answers, Faults, has_failed};
 
@@ -32,7 +32,9 @@ impl<R: rt::Files + Drop> HostFiles<R> {
 
 /// Reads a file to its end. Each turn takes at least one byte of the limit, or it is the last.
 fn read_all<F: Read>(alloc: Global, file: &mut F, limit: usize) -> Result<Vec<u8>, ReadErr>
-    ensures { IfOk result (λ v. vec_len v ≤ limit) }
+    ensures bound { IfOk result (λ v. vec_len v ≤ limit) }
+    ensures whole { IfOk result (λ v. IfSome (F.remaining file.old) (λ bytes. v.items ≡ bytes)) }
+    ensures long { result ≡ Err ReadErr.TooLong → IfSome (F.remaining file.old) (λ bytes. limit < length bytes) }
 {
     let mut bytes = Vec::new(alloc);
     let mut piece = [0u8; 4096];

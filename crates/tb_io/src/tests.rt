@@ -1,102 +1,81 @@
 //! What the files and sinks answer, and what they leave.
-use crate::{Files, HostFiles, HostSink, MemFiles, MemSink, PutErr, ReadErr, Sink};
+use crate::{Files, HostFiles, HostSink, MemFiles, MemSink, ReadErr, Sink};
 use std::io;
 use std::test::Fail;
 
-/// A writer that takes one byte a write, fails once it is full, and cannot be flushed when full.
+/// A writer that takes two bytes a write at most, and is full after five.
 #[derive(Drop)]
-struct OneByOne {
+struct Narrow {
     bytes: Vec<u8>,
-    room: usize,
 }
 
-impl io::Write for OneByOne {
+impl Narrow {
+    fn left(&self) -> io::Result<usize> {
+        match 5usize.saturating_sub(self.bytes.len()) {
+            0 => Err(io::Error::other("full")),
+            left => Ok(left),
+        }
+    }
+}
+
+impl io::Write for Narrow {
     fn write(&mut self, buf: &[u8]) -> io::Result<usize> {
-        if self.bytes.len() >= self.room {
-            return Err(io::Error::other("full"));
-        }
-        match buf.first() {
-            Some(byte) => {
-                self.bytes.push(*byte)?;
-                Ok(1)
-            }
-            None => Ok(0),
-        }
+        let count = self.left()?.min(2).min(buf.len());
+        self.bytes.extend_from_slice(&buf[..count])?;
+        Ok(count)
     }
 
     fn flush(&mut self) -> io::Result<()> {
-        if self.bytes.len() >= self.room {
-            return Err(io::Error::other("full"));
-        }
+        self.left()?;
         Ok(())
     }
 }
 
 #[test]
-fn memory_files_answer_what_was_added(rt: HostRuntime) -> Result<(), Fail> {
-    let mut files = MemFiles::new(rt.alloc());
+fn files_and_sinks_in_memory(rt: HostRuntime) -> Result<(), Fail> {
+    let alloc = rt.alloc();
+    let mut files = MemFiles::new(alloc);
     files.add("a", b"old bytes")?;
     files.add("a", b"new")?;
-    files.add("b", b"")?;
-    files.fail_read(3)?;
-    let none: &[u8] = &[];
-    for (call, (name, limit, want)) in [
-        ("a", 3, Ok(b"new".as_slice())),
-        ("a", 2, Err(ReadErr::TooLong)),
-        ("a", 3, Err(ReadErr::Failed)),
-        ("b", 0, Ok(none)),
-        ("c", 9, Err(ReadErr::Failed)),
-    ]
-    .into_iter()
-    .enumerate()
-    {
-        match (files.read(rt.alloc(), name, limit), want) {
-            (Ok(bytes), Ok(wanted)) => assert_eq!(rt; bytes.as_slice(), wanted, "at {call}"),
-            (Err(fault), Err(wanted)) => assert_eq!(rt; fault, wanted, "at {call}"),
-            _ => assert!(rt; false, "at {call}"),
-        }
-    }
-    Ok(())
-}
-
-#[test]
-fn a_memory_sink_fails_as_it_is_told_and_when_full(rt: HostRuntime) -> Result<(), Fail> {
-    let mut sink = MemSink::new(rt.alloc(), 10)?;
+    files.fail_read(2)?;
+    let mut sink = MemSink::new(alloc, 5)?;
     sink.fail_put(2, 1)?;
-    assert_eq!(rt; sink.put(b"abc"), Ok(()));
-    assert_eq!(rt; sink.put(b"def"), Err(PutErr::Failed));
-    assert_eq!(rt; sink.put(b"ghi"), Ok(()));
-    assert_eq!(rt; sink.put(b"jklm"), Err(PutErr::Failed));
-    assert_eq!(rt; sink.bytes(), b"abcdghijkl".as_slice());
+    assert!(rt; files.read(alloc, "a", 3)?.as_slice() == b"new".as_slice());
+    assert!(rt; files.read(alloc, "a", 3).err() == Some(ReadErr::Failed));
+    assert!(rt; sink.put(b"abc").is_ok());
+    assert!(rt; sink.put(b"def").is_err());
+    assert!(rt; sink.bytes() == b"abcd".as_slice());
     Ok(())
 }
 
+// A read takes 4096 bytes at most at a time.
 #[test]
-fn host_files_answer_a_read(rt: HostRuntime) -> Result<(), Fail> {
+fn a_file_of_the_host_is_read_to_its_end(rt: HostRuntime) -> Result<(), Fail> {
     let path = "tb_io-host_files-test";
-    std::fs::write(&rt, path, b"hello")?;
-    let mut files = HostFiles::new(rt.alloc(), rt.clone()?);
-    let whole = files.read(rt.alloc(), path, 5);
-    let long = files.read(rt.alloc(), path, 4);
+    let alloc = rt.alloc();
+    let wanted = vec![in alloc; 7u8; 5000]?;
+    let mut files = HostFiles::new(alloc, rt.clone()?);
+    std::fs::write(&rt, path, wanted.as_slice())?;
+    let just = files.read(alloc, path, 5000);
+    let long = files.read(alloc, path, 4999);
     std::fs::remove_file(&rt, path)?;
-    let missing = files.read(rt.alloc(), path, 5);
-    assert_eq!(rt; whole?.as_slice(), b"hello".as_slice());
-    assert_eq!(rt; long.err(), Some(ReadErr::TooLong));
-    assert_eq!(rt; missing.err(), Some(ReadErr::Failed));
+    let missing = files.read(alloc, path, 5000);
+    assert!(rt; just?.as_slice() == wanted.as_slice());
+    assert!(rt; long.err() == Some(ReadErr::TooLong));
+    assert!(rt; missing.err() == Some(ReadErr::Failed));
     Ok(())
 }
 
 #[test]
-fn a_host_sink_writes_to_the_end_or_fails(rt: HostRuntime) -> Result<(), Fail> {
-    let mut writer = OneByOne {
+fn a_sink_of_the_host_writes_on(rt: HostRuntime) -> Result<(), Fail> {
+    let mut writer = Narrow {
         bytes: Vec::new(rt.alloc()),
-        room: 5,
     };
     let mut sink = HostSink::new(&mut writer);
-    assert_eq!(rt; sink.put(b"abc"), Ok(()));
-    assert_eq!(rt; sink.flush(), Ok(()));
-    assert_eq!(rt; sink.put(b"def"), Err(PutErr::Failed));
-    assert_eq!(rt; sink.flush(), Err(PutErr::Failed));
-    assert_eq!(rt; writer.bytes.as_slice(), b"abcde".as_slice());
+    assert!(rt; sink.put(b"abc").is_ok());
+    assert!(rt; sink.flush().is_ok());
+    assert!(rt; sink.put(b"def").is_err());
+    assert!(rt; sink.flush().is_err());
+    assert!(rt; writer.bytes.as_slice() == b"abcde".as_slice());
     Ok(())
 }

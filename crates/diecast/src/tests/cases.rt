@@ -1,0 +1,738 @@
+//! Commands, and how each ends.
+use std::test::Fail;
+
+/// A command where `a.toml` holds a text, and the report of its end.
+#[derive(Clone, Copy)]
+pub(crate) struct Case<'a> {
+    pub words: &'a str,
+    /// The put to the output that fails, if there are so many.
+    pub put: u64,
+    /// Which lines of the output are reported.
+    pub shown: &'a str,
+    pub text: &'a str,
+    pub report: &'a str,
+}
+
+/// The case that a text says.
+pub(crate) fn case_of(text: &str) -> Result<Case<'_>, Fail> {
+    let (head, rest) = text.split_once('\n').unwrap_or((text, ""));
+    let (words, columns) = head.split_once('|').unwrap_or((head, ""));
+    let (put, shown) = columns.split_once('|').unwrap_or((columns, ""));
+    let (text, report) = rest.split_once("--\n").unwrap_or((rest, ""));
+    Ok(Case {
+        words,
+        put: put.parse()?,
+        shown,
+        text,
+        report,
+    })
+}
+
+/// The cases: the words, the put that fails and the lines that are reported; then the text of `a.toml`; and then
+/// the report, which has the exit status, how many files were asked for, lines of the output, and the message.
+pub(crate) const CASES: &str = r"run a.toml --host-ticks 4 --view journal|0|all
+version = 1
+factor = 2
+slot = [{ capacity = 1 }]
+guest = [
+  { name = 'a', image = 'jump', format = 'flat', ram = 4096, rate = 2 },
+]
+--
+exit 0 after 2 reads
+diecast 1 factor 2 slots 1 guests 1 host 4
+host 1
+slot 0
+run 0 units 1 done 0
+host 2
+slot 0
+run 0 units 1 done 1
+0 0 instr 80000000 0000006f
+0 0 instr 80000000 0000006f
+host 3
+slot 0
+run 0 units 1 done 1
+host 4
+slot 0
+run 0 units 1 done 2
+1 0 instr 80000000 0000006f
+1 0 instr 80000000 0000006f
+end 4
+--
+==
+run a.toml --host-ticks 4 --view journal|0|all
+version = 1
+factor = 2
+slot = [{ capacity = 1 }]
+guest = [
+  { name = 'a', image = 'elf', ram = 4096, rate = 2, slot = 0 },
+]
+--
+exit 0 after 2 reads
+diecast 1 factor 2 slots 1 guests 1 host 4
+host 1
+slot 0
+run 0 units 1 done 0
+host 2
+slot 0
+run 0 units 1 done 1
+0 0 instr 80000000 0000006f
+0 0 instr 80000000 0000006f
+host 3
+slot 0
+run 0 units 1 done 1
+host 4
+slot 0
+run 0 units 1 done 2
+1 0 instr 80000000 0000006f
+1 0 instr 80000000 0000006f
+end 4
+--
+==
+run a.toml --host-ticks 0 --view journal|0|all
+version = 1
+factor = 2
+slot = [{ capacity = 1 }]
+guest = [
+  { name = 'a', image = 'jump', format = 'flat', ram = 4096, rate = 2, slot = 0 },
+]
+--
+exit 0 after 2 reads
+diecast 1 factor 2 slots 1 guests 1 host 0
+end 0
+--
+==
+run a.toml --host-ticks 2 --view journal|0|all
+version = 1
+factor = 1
+slot = [{ capacity = 1 }, { capacity = 1 }]
+guest = [
+  { name = 'a', image = 'jump', format = 'flat', ram = 4096, rate = 1, slot = 0 },
+]
+--
+exit 0 after 2 reads
+diecast 1 factor 1 slots 2 guests 1 host 2
+host 1
+slot 0
+run 0 units 1 done 1
+0 0 instr 80000000 0000006f
+slot 1
+host 2
+slot 0
+run 0 units 1 done 2
+1 0 instr 80000000 0000006f
+slot 1
+end 2
+--
+==
+run a.toml --host-ticks 1 --view journal|0|all
+version = 1
+factor = 1
+slot = [{ capacity = 5 }]
+guest = [
+  { name = 'a', image = 'wait', format = 'flat', ram = 4096, rate = 5, slot = 0 },
+]
+--
+exit 0 after 2 reads
+diecast 1 factor 1 slots 1 guests 1 host 1
+host 1
+slot 0
+run 0 units 1 done 1
+0 0 instr 80000000 10500073
+run 0 units 1 done 2
+run 0 units 1 done 3
+run 0 units 1 done 4
+run 0 units 1 done 5
+end 1
+--
+==
+run a.toml --host-ticks 1 --view journal|0|all
+version = 1
+factor = 1
+slot = [{ capacity = 2 }]
+guest = [
+  { name = 'a', image = 'misaligned', format = 'flat', ram = 4096, rate = 2, slot = 0 },
+]
+--
+exit 0 after 2 reads
+diecast 1 factor 1 slots 1 guests 1 host 1
+host 1
+slot 0
+run 0 units 2 done 1
+0 0 trap 00000000 80000000
+0 0 trap 00000001 00000000
+end 1
+--
+==
+run a.toml --host-ticks 1 --view journal|0|all
+version = 1
+factor = 1
+slot = [{ capacity = 1 }]
+guest = [
+  { name = 'a', image = 'zeros', format = 'flat', ram = 4096, rate = 1, slot = 0 },
+]
+--
+exit 0 after 2 reads
+diecast 1 factor 1 slots 1 guests 1 host 1
+host 1
+slot 0
+run 0 units 1 done 1
+0 0 trap 00000002 80000000
+end 1
+--
+==
+run a.toml --host-ticks 2 --view journal|0|all
+version = 1
+factor = 1
+slot = [{ capacity = 5 }]
+guest = [
+  { name = 'a', image = 'off', format = 'flat', ram = 4096, rate = 5, slot = 0 },
+]
+--
+exit 0 after 2 reads
+diecast 1 factor 1 slots 1 guests 1 host 2
+host 1
+slot 0
+run 0 units 4 done 1
+0 0 instr 80000000 001002b7
+0 0 instr 80000004 00005337
+0 0 instr 80000008 55530313
+0 0 instr 8000000c 0062a023
+0 0 halt
+run 0 units 1 done 2
+host 2
+slot 0
+run 0 units 1 done 3
+run 0 units 1 done 4
+run 0 units 1 done 5
+run 0 units 1 done 6
+run 0 units 1 done 7
+end 2
+--
+==
+run a.toml --host-ticks 1 --view journal|0|all
+version = 1
+factor = 1
+slot = [{ capacity = 4 }]
+guest = [
+  { name = 'a', image = 'sends', format = 'flat', ram = 4096, rate = 4, slot = 0 },
+]
+--
+exit 0 after 2 reads
+diecast 1 factor 1 slots 1 guests 1 host 1
+host 1
+slot 0
+run 0 units 4 done 1
+0 0 instr 80000000 100002b7
+0 0 instr 80000004 04100313
+0 0 instr 80000008 00628023
+0 0 uart 65
+0 0 instr 8000000c 0000006f
+end 1
+--
+==
+run a.toml --host-ticks 4 --view journal|0|records
+version = 1
+factor = 1
+slot = [{ capacity = 5 }]
+guest = [
+  { name = 'a', image = 'timer', format = 'flat', ram = 4096, rate = 5, slot = 0 },
+]
+--
+exit 0 after 2 reads
+0 0 instr 80000000 800002b7
+0 0 instr 80000004 04028293
+0 0 instr 80000008 30529073
+0 0 instr 8000000c 02004337
+0 0 instr 80000010 00300393
+1 0 instr 80000014 00032223
+1 0 instr 80000018 00732023
+1 0 instr 8000001c 08000413
+1 0 instr 80000020 30441073
+1 0 instr 80000024 30046073
+2 0 instr 80000028 0000006f
+2 0 instr 80000028 0000006f
+2 0 instr 80000028 0000006f
+2 0 instr 80000028 0000006f
+2 0 instr 80000028 0000006f
+3 0 trap 80000007 80000028
+3 0 instr 80000040 0000006f
+3 0 instr 80000040 0000006f
+3 0 instr 80000040 0000006f
+3 0 instr 80000040 0000006f
+--
+==
+run a.toml --host-ticks 40 --view journal|0|records
+version = 1
+factor = 10
+slot = [{ capacity = 5 }]
+guest = [
+  { name = 'a', image = 'timer', format = 'flat', ram = 4096, rate = 5, slot = 0 },
+]
+--
+exit 0 after 2 reads
+0 0 instr 80000000 800002b7
+0 0 instr 80000004 04028293
+0 0 instr 80000008 30529073
+0 0 instr 8000000c 02004337
+0 0 instr 80000010 00300393
+1 0 instr 80000014 00032223
+1 0 instr 80000018 00732023
+1 0 instr 8000001c 08000413
+1 0 instr 80000020 30441073
+1 0 instr 80000024 30046073
+2 0 instr 80000028 0000006f
+2 0 instr 80000028 0000006f
+2 0 instr 80000028 0000006f
+2 0 instr 80000028 0000006f
+2 0 instr 80000028 0000006f
+3 0 trap 80000007 80000028
+3 0 instr 80000040 0000006f
+3 0 instr 80000040 0000006f
+3 0 instr 80000040 0000006f
+3 0 instr 80000040 0000006f
+--
+==
+plan a.toml|0|all
+version = 1
+factor = 2
+slot = [{ capacity = 4 }]
+guest = [
+  { name = 'a', image = 'jump', format = 'flat', ram = 4096, rate = 3, slot = 0 },
+  { name = 'b', image = 'jump', format = 'flat', ram = 4096, rate = 3, slot = 0 },
+  { name = 'c', image = 'jump', format = 'flat', ram = 4096, rate = 2, slot = 0 },
+]
+--
+exit 0 after 1 reads
+plan factor 2 slots 1 guests 3
+slot 0 need 8 have 8
+guest 0 a slot 0 rate 3
+guest 1 b slot 0 rate 3
+guest 2 c slot 0 rate 2
+least 2 slot 0
+fits
+--
+==
+run a.toml --host-ticks 4 --view journal|0|schedule
+version = 1
+factor = 2
+slot = [{ capacity = 4 }]
+guest = [
+  { name = 'a', image = 'jump', format = 'flat', ram = 4096, rate = 3, slot = 0 },
+  { name = 'b', image = 'jump', format = 'flat', ram = 4096, rate = 3, slot = 0 },
+  { name = 'c', image = 'jump', format = 'flat', ram = 4096, rate = 2, slot = 0 },
+]
+--
+exit 0 after 4 reads
+diecast 1 factor 2 slots 1 guests 3 host 4
+host 1
+slot 0
+run 0 units 3 done 1
+run 1 units 1 done 0
+host 2
+slot 0
+run 1 units 2 done 1
+run 2 units 2 done 1
+host 3
+slot 0
+run 0 units 3 done 2
+run 1 units 1 done 1
+host 4
+slot 0
+run 1 units 2 done 2
+run 2 units 2 done 2
+end 4
+--
+==
+run a.toml --host-ticks 7 --view journal|0|schedule
+version = 1
+factor = 3
+slot = [{ capacity = 2 }]
+guest = [
+  { name = 'a', image = 'jump', format = 'flat', ram = 4096, rate = 3, slot = 0 },
+  { name = 'b', image = 'jump', format = 'flat', ram = 4096, rate = 3, slot = 0 },
+]
+--
+exit 0 after 3 reads
+diecast 1 factor 3 slots 1 guests 2 host 7
+host 1
+slot 0
+run 0 units 2 done 0
+host 2
+slot 0
+run 0 units 1 done 1
+run 1 units 1 done 0
+host 3
+slot 0
+run 1 units 2 done 1
+host 4
+slot 0
+run 0 units 2 done 1
+host 5
+slot 0
+run 0 units 1 done 2
+run 1 units 1 done 1
+host 6
+slot 0
+run 1 units 2 done 2
+host 7
+slot 0
+run 0 units 2 done 2
+end 7
+--
+==
+plan a.toml|0|all
+version = 1
+factor = 1
+slot = [{ capacity = 8 }, { capacity = 8 }]
+guest = [
+  { name = 'a', image = 'jump', format = 'flat', ram = 4096, rate = 6 },
+  { name = 'b', image = 'jump', format = 'flat', ram = 4096, rate = 5 },
+  { name = 'c', image = 'jump', format = 'flat', ram = 4096, rate = 4 },
+]
+--
+exit 1 after 1 reads
+plan factor 1 slots 2 guests 3
+slot 0 need 6 have 8
+slot 1 need 9 have 8
+guest 0 a slot 0 rate 6
+guest 1 b slot 1 rate 5
+guest 2 c slot 1 rate 4
+least 2 slot 1
+over 1 need 9 have 8
+--
+diecast: overload: slot 1 needs 9, has 8
+==
+run a.toml --host-ticks 4 --view journal|0|all
+version = 1
+factor = 1
+slot = [{ capacity = 8 }, { capacity = 8 }]
+guest = [
+  { name = 'a', image = 'jump', format = 'flat', ram = 4096, rate = 6 },
+  { name = 'b', image = 'jump', format = 'flat', ram = 4096, rate = 5 },
+  { name = 'c', image = 'jump', format = 'flat', ram = 4096, rate = 4 },
+]
+--
+exit 1 after 1 reads
+--
+diecast: overload: slot 1 needs 9, has 8
+==
+run a.toml --host-ticks 4 --view journal|0|all
+version = 1
+factor = 2
+slot = [{ capacity = 1 }]
+guest = [
+  { name = 'a', image = 'jump', format = 'flat', ram = 4096, rate = 3, slot = 0 },
+]
+--
+exit 1 after 1 reads
+--
+diecast: overload: slot 0 needs 3, has 2
+==
+plan a.toml|1|all
+version = 1
+factor = 1
+slot = [{ capacity = 8 }, { capacity = 8 }]
+guest = [
+  { name = 'a', image = 'jump', format = 'flat', ram = 4096, rate = 6 },
+  { name = 'b', image = 'jump', format = 'flat', ram = 4096, rate = 5 },
+  { name = 'c', image = 'jump', format = 'flat', ram = 4096, rate = 4 },
+]
+--
+exit 6 after 1 reads
+pla--
+diecast: write fault
+==
+plan a.toml|2|all
+version = 1
+factor = 1
+slot = [{ capacity = 8 }, { capacity = 8 }]
+guest = [
+  { name = 'a', image = 'jump', format = 'flat', ram = 4096, rate = 6 },
+  { name = 'b', image = 'jump', format = 'flat', ram = 4096, rate = 5 },
+  { name = 'c', image = 'jump', format = 'flat', ram = 4096, rate = 4 },
+]
+--
+exit 6 after 1 reads
+plan factor 1 slots 2 guests 3
+slo--
+diecast: write fault
+==
+plan a.toml|8|all
+version = 1
+factor = 1
+slot = [{ capacity = 8 }, { capacity = 8 }]
+guest = [
+  { name = 'a', image = 'jump', format = 'flat', ram = 4096, rate = 6 },
+  { name = 'b', image = 'jump', format = 'flat', ram = 4096, rate = 5 },
+  { name = 'c', image = 'jump', format = 'flat', ram = 4096, rate = 4 },
+]
+--
+exit 6 after 1 reads
+plan factor 1 slots 2 guests 3
+slot 0 need 6 have 8
+slot 1 need 9 have 8
+guest 0 a slot 0 rate 6
+guest 1 b slot 1 rate 5
+guest 2 c slot 1 rate 4
+least 2 slot 1
+ove--
+diecast: write fault
+==
+run a.toml --host-ticks 4 --view journal|3|all
+version = 1
+factor = 2
+slot = [{ capacity = 1 }]
+guest = [
+  { name = 'a', image = 'jump', format = 'flat', ram = 4096, rate = 2, slot = 0 },
+]
+--
+exit 6 after 2 reads
+diecast 1 factor 2 slots 1 guests 1 host 4
+host 1
+slo--
+diecast: write fault
+==
+run a.toml --host-ticks  --view journal|0|all
+--
+exit 2 after 0 reads
+--
+diecast: usage: bad-number
+==
+run a.toml --host-ticks 04 --view journal|0|all
+--
+exit 2 after 0 reads
+--
+diecast: usage: bad-number
+==
+run a.toml --host-ticks 1000001 --view journal|0|all
+--
+exit 2 after 0 reads
+--
+diecast: usage: bad-number
+==
+plan |0|all
+--
+exit 2 after 0 reads
+--
+diecast: usage: empty-name
+==
+plan a.toml --view|0|all
+--
+exit 2 after 0 reads
+--
+diecast: usage: not-words
+==
+run a.toml 4|0|all
+--
+exit 2 after 0 reads
+--
+diecast: usage: not-words
+==
+plan b.toml|0|all
+--
+exit 5 after 1 reads
+--
+diecast: read fault: experiment
+==
+plan long|0|all
+--
+exit 4 after 1 reads
+--
+diecast: too long: experiment
+==
+plan a.toml|0|all
+--
+exit 3 after 1 reads
+--
+diecast: experiment: missing top 0 version
+==
+plan a.toml|0|all
+version = 1
+factor = 3
+slot = [{ capacity = 2 }, { capacity = 0 }]
+guest = [
+  { name = 'a', image = 'jump', format = 'flat', ram = 4096, rate = 2, slot = 0 },
+]
+--
+exit 3 after 1 reads
+--
+diecast: experiment: range slot 1 capacity
+==
+run a.toml --host-ticks 4 --view journal|0|all
+version = 1
+factor = 2
+slot = [{ capacity = 1 }]
+--
+exit 3 after 1 reads
+--
+diecast: experiment: no-guest top 0 guest
+==
+run a.toml --host-ticks 4 --view journal|0|all
+version = 1
+factor = 2
+slot = [{ capacity = 1 }]
+guest = [
+  { name = 'a', image = 'jump', format = 'flat', ram = 4096, rate = 2, slot = 0, zone = 1, area = 1 },
+]
+--
+exit 3 after 1 reads
+--
+diecast: experiment: unknown guest 0 area
+==
+run a.toml --host-ticks 4 --view journal|0|all
+version = 1
+factor = 2
+slot = [{ capacity = 1 }]
+guest = [
+  { name = 'a', image = 'jump', format = 'flat', ram = 5000, rate = 2, slot = 0 },
+]
+--
+exit 3 after 1 reads
+--
+diecast: experiment: range guest 0 ram
+==
+run a.toml --host-ticks 4 --view journal|0|all
+version = 1
+factor = 2
+slot = [{ capacity = 1 }]
+guest = [
+  { name = 'a', image = 'jump', format = 'flat', ram = 4096, rate = 2, slot = 0, nics = 1 },
+]
+--
+exit 3 after 1 reads
+--
+diecast: experiment: not-built top 0 -
+==
+run a.toml --host-ticks 4 --view journal|0|all
+version = 1
+factor = 2
+slot = [{ capacity = 1 }]
+guest = [
+  { name = 'a', image = 'lost', format = 'flat', ram = 4096, rate = 2, slot = 0 },
+]
+--
+exit 5 after 2 reads
+--
+diecast: read fault: image 0
+==
+run a.toml --host-ticks 4 --view journal|0|all
+version = 1
+factor = 1
+slot = [{ capacity = 2 }]
+guest = [
+  { name = 'a', image = 'jump', format = 'flat', ram = 4096, rate = 1, slot = 0 },
+  { name = 'b', image = 'lost', format = 'flat', ram = 4096, rate = 1, slot = 0 },
+]
+--
+exit 5 after 3 reads
+--
+diecast: read fault: image 1
+==
+run a.toml --host-ticks 4 --view journal|0|all
+version = 1
+factor = 2
+slot = [{ capacity = 1 }]
+guest = [
+  { name = 'a', image = 'long', format = 'flat', ram = 4096, rate = 2, slot = 0 },
+]
+--
+exit 4 after 2 reads
+--
+diecast: too long: image 0
+==
+run a.toml --host-ticks 4 --view journal|0|all
+version = 1
+factor = 2
+slot = [{ capacity = 1 }]
+guest = [
+  { name = 'a', image = 'full', format = 'flat', ram = 4096, rate = 2, slot = 0 },
+]
+--
+exit 7 after 2 reads
+--
+diecast: out of memory
+==
+run a.toml --host-ticks 4 --view journal|0|all
+version = 1
+factor = 2
+slot = [{ capacity = 1 }]
+guest = [
+  { name = 'a', image = 'more', format = 'flat', ram = 4096, rate = 2, slot = 0 },
+]
+--
+exit 4 after 2 reads
+--
+diecast: image 0: too-long
+==
+run a.toml --host-ticks 4 --view journal|0|all
+version = 1
+factor = 2
+slot = [{ capacity = 1 }]
+guest = [
+  { name = 'a', image = 'jump', ram = 4096, rate = 2, slot = 0 },
+]
+--
+exit 4 after 2 reads
+--
+diecast: image 0: not-elf
+==
+run a.toml --host-ticks 4 --view journal|0|all
+version = 1
+factor = 2
+slot = [{ capacity = 1 }]
+guest = [
+  { name = 'a', image = 'elf-3', ram = 4096, rate = 2, slot = 0 },
+]
+--
+exit 4 after 2 reads
+--
+diecast: image 0: not-elf
+==
+run a.toml --host-ticks 4 --view journal|0|all
+version = 1
+factor = 2
+slot = [{ capacity = 1 }]
+guest = [
+  { name = 'a', image = 'elf-51', ram = 4096, rate = 2, slot = 0 },
+]
+--
+exit 4 after 2 reads
+--
+diecast: image 0: truncated
+==
+run a.toml --host-ticks 4 --view journal|0|all
+version = 1
+factor = 2
+slot = [{ capacity = 1 }]
+guest = [
+  { name = 'a', image = 'elf-119', ram = 4096, rate = 2, slot = 0 },
+]
+--
+exit 4 after 2 reads
+--
+diecast: image 0: bad-segment 1
+==
+run a.toml --host-ticks 4 --view journal|0|all
+version = 1
+factor = 2
+slot = [{ capacity = 1 }]
+guest = [
+  { name = 'a', image = 'elf-outside', ram = 4096, rate = 2, slot = 0 },
+]
+--
+exit 4 after 2 reads
+--
+diecast: image 0: outside-ram 1
+==
+run a.toml --host-ticks 4 --view journal|0|all
+version = 1
+factor = 2
+slot = [{ capacity = 1 }]
+guest = [
+  { name = 'a', image = 'elf-entry', ram = 4096, rate = 2, slot = 0 },
+]
+--
+exit 4 after 2 reads
+--
+diecast: image 0: bad-entry
+";

@@ -1,0 +1,59 @@
+//! Images of small programs.
+use std::test::Fail;
+use tb_io::MemFiles;
+
+/// Jumps in place.
+const JUMP: &[u8; 4] = b"\x6f\0\0\0";
+
+/// Waits for an interrupt, and every later step is idle.
+const WAIT: &[u8; 4] = b"\x73\0\x50\x10";
+
+/// Jumps by 2, which traps; and then there is no word at mtvec, which is 0.
+const MISALIGNED: &[u8; 4] = b"\xef\0\x20\0";
+
+/// Stores 0x5555 to the power register.
+const OFF: &[u8; 16] = b"\xb7\x02\x10\0\x37\x53\0\0\x13\x03\x53\x55\x23\xa0\x62\0";
+
+/// Sends a byte, and jumps in place.
+pub(crate) const SENDS: &[u8; 16] = b"\xb7\x02\0\x10\x13\x03\x10\x04\x23\x80\x62\0\x6f\0\0\0";
+
+/// Sets mtvec to 0x8000_0040 and mtimecmp to 3, enables the timer's interrupt, and jumps in place;
+/// its handler jumps in place too.
+const TIMER: &[u8; 68] =
+    b"\xb7\x02\0\x80\x93\x82\x02\x04\x73\x90\x52\x30\x37\x43\0\x02\x93\x03\x30\0\x23\x22\x03\0\
+\x23\x20\x73\0\x13\x04\0\x08\x73\x10\x44\x30\x73\x60\x04\x30\x6f\0\0\0\0\0\0\0\0\0\0\0\0\0\0\0\0\0\0\0\0\0\0\0\x6f\0\0\0";
+
+/// An ELF file with two program headers, the second of four bytes at 116 that are loaded to
+/// 0x8000_0000: the jump in place.
+const ELF: &[u8; 120] =
+    b"\x7fELF\x01\x01\x01\0\0\0\0\0\0\0\0\0\x02\0\xf3\0\x01\0\0\0\0\0\0\x80\x34\0\0\0\0\0\0\0\0\0\0\0\x34\0\x20\0\x02\0\0\0\0\0\0\0\
+    \x03\0\0\x70\0\0\0\0\0\0\0\0\0\0\0\0\0\0\0\0\0\0\0\0\0\0\0\0\0\0\0\0\
+    \x01\0\0\0\x74\0\0\0\0\0\0\0\0\0\0\x80\x04\0\0\0\0\x10\0\0\0\0\0\0\0\0\0\0\x6f\0\0\0";
+
+/// Adds each program under a name of its own.
+pub(crate) fn add_images(files: &mut MemFiles) -> Result<(), Fail> {
+    files.add("jump", JUMP)?;
+    files.add("wait", WAIT)?;
+    files.add("misaligned", MISALIGNED)?;
+    files.add("zeros", &[0; 4])?;
+    files.add("more", &[0; 4097])?;
+    files.add("off", OFF)?;
+    files.add("sends", SENDS)?;
+    files.add("timer", TIMER)?;
+    Ok(())
+}
+
+/// Adds the ELF file, its first bytes alone, and the file with a size and an entry that are wrong.
+pub(crate) fn add_elf_files(files: &mut MemFiles) -> Result<(), Fail> {
+    let mut outside = *ELF;
+    let mut entry = *ELF;
+    outside[104] = 4;
+    entry[24] = 2;
+    files.add("elf", ELF)?;
+    files.add("elf-3", &ELF[..3])?;
+    files.add("elf-51", &ELF[..51])?;
+    files.add("elf-119", &ELF[..119])?;
+    files.add("elf-outside", &outside)?;
+    files.add("elf-entry", &entry)?;
+    Ok(())
+}
