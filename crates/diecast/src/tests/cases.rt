@@ -138,10 +138,7 @@ host 1
 slot 0
 run 0 units 1 done 1
 0 0 instr 80000000 10500073
-run 0 units 1 done 2
-run 0 units 1 done 3
-run 0 units 1 done 4
-run 0 units 1 done 5
+run 0 units 4 done 5
 end 1
 --
 ==
@@ -201,11 +198,7 @@ run 0 units 4 done 1
 run 0 units 1 done 2
 host 2
 slot 0
-run 0 units 1 done 3
-run 0 units 1 done 4
-run 0 units 1 done 5
-run 0 units 1 done 6
-run 0 units 1 done 7
+run 0 units 5 done 7
 end 2
 --
 ==
