@@ -4,7 +4,7 @@ use Rattle.std.proofs.lemmas.Bool.Decides.{nat_tests}
 use Rattle.std.specs.Int.{w32, cast_unsigned}
 use Rattle.rv_word.specs.declared.op.Op.{Op}
 use Rattle.rv_word.specs.declared.op.Op.TheVariants as op
-use Rattle.rv_word.specs.Fields.{rd_of, rs1_of, rs2_of, csr_of, imm_i, imm_s, imm_b, imm_u, imm_j}
+use Rattle.rv_word.specs.Fields.{rd_of, rs1_of, rs2_of, csr_of, imm_i, imm_s, imm_b, imm_u}
 use Rattle.rv_word.specs.Ranges.{IsRegister, IsSigned, IsMultiple, IsInRange}
 use Rattle.rv_word.specs.Table.{search, table}
 use Rattle.rv_word.proofs.Found.{found, found_at}

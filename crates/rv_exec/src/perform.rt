@@ -1,6 +1,7 @@
 //! Instructions.
 ghost use Rattle.std.specs.Prelude.{◌≡◌, ◌+◌, ◌*◌, ◌-◌, ◌/◌, ◌<◌, ◌≤◌, ◌^◌, ◌%◌, OnErr};
 ghost use Rattle.tb_base.specs.declared.width.Width.TheVariants as width;
+ghost use Rattle.csr_file.specs.Csrs.{bit_of};
 ghost use Rattle.rv_arith.specs.Words.{word_sext8, word_sext16};
 ghost use Rattle.rv_word.specs.Ranges.{IsInRange};
 ghost use Rattle.rv_exec.specs.Ends.{outcome_of};
@@ -39,6 +40,13 @@ fn store_fault(fault: MemFault, addr: u32) -> Exception
         },
         value: addr,
     }
+}
+
+/// A comparison as a word: 1 where it holds.
+fn bit(holds: bool) -> u32
+    ensures { result ≡ bit_of holds }
+{
+    if holds { 1 } else { 0 }
 }
 
 impl Hart {
@@ -159,11 +167,11 @@ impl Hart {
             Op::Addi { rd, rs1, imm } => self.put_value(rd, self.sum(rs1, imm)),
             Op::Slti { rd, rs1, imm } => self.put_value(
                 rd,
-                u32::from(slt(self.reg(rs1), imm.cast_unsigned())),
+                bit(slt(self.reg(rs1), imm.cast_unsigned())),
             ),
             Op::Sltiu { rd, rs1, imm } => self.put_value(
                 rd,
-                u32::from(sltu(self.reg(rs1), imm.cast_unsigned())),
+                bit(sltu(self.reg(rs1), imm.cast_unsigned())),
             ),
             Op::Xori { rd, rs1, imm } => self.put_value(rd, self.reg(rs1) ^ imm.cast_unsigned()),
             Op::Ori { rd, rs1, imm } => self.put_value(rd, self.reg(rs1) | imm.cast_unsigned()),
@@ -180,13 +188,10 @@ impl Hart {
                 self.reg(rs1).wrapping_sub(self.reg(rs2)),
             ),
             Op::Sll { rd, rs1, rs2 } => self.put_value(rd, sll(self.reg(rs1), self.reg(rs2))),
-            Op::Slt { rd, rs1, rs2 } => self.put_value(
-                rd,
-                u32::from(slt(self.reg(rs1), self.reg(rs2))),
-            ),
+            Op::Slt { rd, rs1, rs2 } => self.put_value(rd, bit(slt(self.reg(rs1), self.reg(rs2)))),
             Op::Sltu { rd, rs1, rs2 } => self.put_value(
                 rd,
-                u32::from(sltu(self.reg(rs1), self.reg(rs2))),
+                bit(sltu(self.reg(rs1), self.reg(rs2))),
             ),
             Op::Xor { rd, rs1, rs2 } => self.put_value(rd, self.reg(rs1) ^ self.reg(rs2)),
             Op::Srl { rd, rs1, rs2 } => self.put_value(rd, srl(self.reg(rs1), self.reg(rs2))),
