@@ -1,10 +1,10 @@
 -- What a walk that has come to descriptor n of the path may answer.
-use Rattle.std.proofs.Common.{◌≡◌, ℕ, zero, suc, ◌+◌, ◌<◌, ◌≤◌, Bool, true, false, not, ◌&&◌, ◌||◌, cond, eqb, leb, nat_le, List, [], ◌∷◌, ◌++◌, length, map, set, replicate, get_or, slice_index_or, refl, sym, ap, ◌∙◌, subst, arith, add-one, Option, Some, None, is_some, Result, Ok, Err, inl, inr, below_more}
+use Rattle.std.proofs.Common.{◌≡◌, ℕ, zero, suc, ◌+◌, ◌<◌, ◌≤◌, Bool, true, false, not, ◌&&◌, ◌||◌, cond, eqb, leb, nat_le, List, [], ◌∷◌, ◌++◌, length, map, set, replicate, get_or, refl, sym, ap, ◌∙◌, subst, arith, add-one, Option, Some, None, is_some, Ok, Err, inl, inr}
 use Rattle.std.specs.List.{count_by, filter}
-use Rattle.std.proofs.lemmas.List.{get_or-set_same, get_or-set_other, get_or-replicate, length-set, length-append, length_push, map-append, append-nil}
+use Rattle.std.proofs.lemmas.List.{get_or-set_same, get_or-set_other, get_or-replicate, length-set, length_push, map-append, append-nil}
 use Rattle.std.proofs.lemmas.List.Sums.{count_by-le-length, sum_by-set}
 use Rattle.std.proofs.lemmas.List.Elements.{filter-append}
-use Rattle.std.proofs.lemmas.Bool.{cases_eq, cases_lt, eq-eqb, ne_eqb, le-leb, leb-false, cond-true, cond-false, or_right}
+use Rattle.std.proofs.lemmas.Bool.{cases_eq, eq-eqb, ne_eqb, leb-false, cond-true, cond-false, or_right}
 use Rattle.tb_base.specs.declared.why.Why.{Why}
 use Rattle.tb_base.specs.declared.why.Why.TheVariants.{Loop, Indirect, RangeOutside, OrderWrong, NextRange}
 use Rattle.guest_ram.specs.Bytes.{holds_range}
@@ -12,8 +12,9 @@ use Rattle.split_queue.specs.declared.descriptor.Descriptor.{Descriptor}
 use Rattle.split_queue.specs.declared.range.Range.{Range}
 use Rattle.split_queue.specs.Chains.{ChainOf, chain_of}
 use Rattle.split_queue.specs.Rings.{descriptor_at}
-use Rattle.split_queue.specs.Paths.{Start, start, place, nth, path, is_among, has_writable, fault_of, fault_at, ends_at, first_from, end, range_of, readable_of, writable_of, outcome, walked}
-use Rattle.split_queue.specs.Walks.{added, Along}
+use Rattle.split_queue.specs.Paths.{Start, place, nth, path, is_among, has_writable, fault_of, fault_at, ends_at, first_from, end, range_of, readable_of, writable_of, outcome, walked}
+use Rattle.split_queue.specs.Walks.{added}
+use Rattle.split_queue.proofs.Along.{Along}
 
 first_is : (test : ℕ → Bool) (k m n : ℕ) → ((j : ℕ) → k ≤ j → j < n → test j ≡ false) → test n ≡ true → k ≤ n → n ≤ k + m → first_from test k m ≡ n
 first_is test k zero n low at a b = omega arith

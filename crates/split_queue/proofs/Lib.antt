@@ -1,3 +1,4 @@
+pub mod Along
 pub mod AlongLemmas
 pub mod Takes
 pub mod StreamLemmas

@@ -1,13 +1,14 @@
 -- Every path comes to its end within a table's 64 places, and the ranges of a chain lie in RAM.
-use Rattle.std.proofs.Common.{◌≡◌, ℕ, zero, suc, ◌+◌, ◌<◌, ◌≤◌, Bool, true, false, not, ◌&&◌, ◌||◌, cond, List, [], ◌∷◌, ◌++◌, length, set, replicate, get_or, refl, sym, ap, ◌∙◌, subst, arith, add-one, Option, Some, None, is_some, Result, Ok, Err, inl, inr, ◌⊎◌}
-use Rattle.std.proofs.lemmas.Bool.{cases_Bool, cases_eq, cases_lt, cond-true, cond-false, both_ways}
+use Rattle.std.proofs.Common.{◌≡◌, ℕ, zero, suc, ◌+◌, ◌<◌, ◌≤◌, Bool, true, false, ◌||◌, List, [], set, replicate, get_or, refl, sym, ap, ◌∙◌, subst, arith, add-one, Option, Some, None, inl, inr, ◌⊎◌}
+use Rattle.std.proofs.lemmas.Bool.{cases_Bool, cases_eq, cond-true, cond-false, both_ways}
 use Rattle.tb_base.specs.declared.why.Why.{Why}
 use Rattle.tb_base.specs.declared.why.Why.TheVariants.{Loop}
 use Rattle.split_queue.specs.declared.descriptor.Descriptor.{Descriptor}
 use Rattle.split_queue.specs.Chains.{ChainOf, chain_of}
 use Rattle.split_queue.specs.Rings.{descriptor_at}
 use Rattle.split_queue.specs.Paths.{Start, place, nth, is_among, fault_at, fault_of, ends_at, first_from, end}
-use Rattle.split_queue.specs.Walks.{added, Along}
+use Rattle.split_queue.specs.Walks.{added}
+use Rattle.split_queue.proofs.Along.{Along}
 use Rattle.split_queue.proofs.AlongLemmas.{along_start, along_next, along_old, along_wrong, along_count, fault_met, ends_by_fault, goes_or_ends}
 
 pub record Reached (s : Start) (n : ℕ) : Type 0 where

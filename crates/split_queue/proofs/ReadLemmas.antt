@@ -1,6 +1,6 @@
 -- Bytes of a stream are read a range at a time.
-use Rattle.std.proofs.Common.{◌≡◌, ℕ, ◌+◌, ◌-◌, ◌<◌, ◌≤◌, min, List, [], ◌∷◌, ◌++◌, length, take, drop, slice_range, refl, sym, ap, ◌∙◌, arith, append_assoc, inl, inr}
-use Rattle.std.proofs.lemmas.List.{take_at, drop-append-le, drop-drop, drop-take, take-take, take-append-le, append-nil, length-append, length-drop, length-take-le}
+use Rattle.std.proofs.Common.{◌≡◌, ℕ, ◌+◌, ◌-◌, ◌<◌, ◌≤◌, min, List, [], ◌∷◌, ◌++◌, length, take, drop, slice_range, sym, ap, ◌∙◌, arith, append_assoc, inl, inr}
+use Rattle.std.proofs.lemmas.List.{drop-append-le, drop-drop, drop-take, take-take, take-append-le, append-nil, length-append, length-drop, length-take-le}
 use Rattle.std.proofs.lemmas.Slice.{take-put_mid}
 use Rattle.std.proofs.Math.Seq.{drop-append-add, take-append-add}
 use Rattle.std.proofs.lemmas.Bool.{cases_lt}

@@ -1,13 +1,11 @@
 -- What taking a chain comes to, by the head that is named and the path from it.
-use Rattle.std.proofs.Common.{◌≡◌, ℕ, suc, Bool, List, refl, sym, ap, ◌∙◌, ◌<◌, ◌≤◌, length, get_or, set, true, false, arith, Option, Some, None, Result, Ok, Err}
-use Rattle.std.proofs.lemmas.List.{get_or-set_same}
+use Rattle.std.proofs.Common.{◌≡◌, ℕ, suc, List, refl, sym, ap, ◌∙◌, ◌<◌, ◌≤◌, arith, Option, Some, None, Result, Ok}
 use Rattle.tb_base.specs.declared.why.Why.{Why}
 use Rattle.split_queue.specs.Chains.{ChainOf, chain_of}
 use Rattle.split_queue.specs.Queues.{Queue, marked}
 use Rattle.split_queue.specs.Paths.{Start, start, outcome, walked, fault_at, end, path, readable_of, writable_of}
 use Rattle.split_queue.specs.Taking.{next_head, took, after_take, of_head, of_walk, RingsIn, CanPut, QueueFits}
 use Rattle.split_queue.specs.Putting.{returned}
-use Rattle.split_queue.specs.declared.took.Took.{Took}
 use Rattle.split_queue.specs.declared.took.Took.TheVariants.{Chain, Empty, Broken}
 
 -- the path from a head of this queue

@@ -1,5 +1,5 @@
 -- What a walk answers is what whole paths say.
-use Rattle.std.proofs.Common.{◌≡◌, ◌≢◌, ℕ, zero, suc, ◌+◌, ◌-◌, ◌<◌, ◌≤◌, Bool, true, false, not, ◌&&◌, ◌||◌, nat_le, cond, eqb, List, [], ◌∷◌, ◌++◌, length, map, take, get_or, refl, sym, ap, ◌∙◌, subst, arith, add-one, Option, Some, None, Result, Ok, Err, inl, inr}
+use Rattle.std.proofs.Common.{◌≡◌, ℕ, zero, suc, ◌-◌, ◌<◌, ◌≤◌, Bool, true, false, not, ◌&&◌, ◌||◌, nat_le, cond, eqb, List, [], ◌∷◌, ◌++◌, length, take, get_or, refl, sym, ap, ◌∙◌, arith, add-one, Option, Some, None, Ok, Err, inl, inr}
 use Rattle.std.proofs.lemmas.List.{length_push, get_or_push, get_or_append_left, map_push, take_all, take-append-le, ext_get_or}
 use Rattle.std.proofs.lemmas.Bool.{cases_eq, cases_Bool, ne_eqb, eqb-true, or_parts, or_cases, eqb-false, both_ways}
 use Rattle.tb_base.specs.declared.why.Why.{Why}
@@ -9,9 +9,9 @@ use Rattle.split_queue.specs.declared.descriptor.Descriptor.{Descriptor}
 use Rattle.split_queue.specs.Chains.{ChainOf, chain_of}
 use Rattle.split_queue.specs.Rings.{descriptor_at}
 use Rattle.split_queue.specs.Paths.{Start, place, nth, path, is_among, has_writable, fault_of, fault_at, ends_at, end, readable_of, writable_of, outcome, walked}
-use Rattle.split_queue.specs.Whole.{descriptors, at, IsPath, IsSound, IsChainOf, BreaksAt}
+use Rattle.split_queue.specs.Whole.{descriptors, at, IsPath, IsChainOf, BreaksAt}
 use Rattle.split_queue.proofs.AlongLemmas.{along_count, end_is, walked_at, fault_met, fault_new, ends_by_fault, goes_or_ends}
-use Rattle.split_queue.proofs.PathsEnd.{Reached, reach, none_there, new_there, goes_there, none_before, ends_there}
+use Rattle.split_queue.proofs.PathsEnd.{Reached, reach, none_there, goes_there, none_before, ends_there}
 use Rattle.split_queue.proofs.PathsIn.{outcome_ok, none_new}
 
 abbrev places : Start → ℕ → List ℕ

@@ -1,5 +1,5 @@
 -- What giving a chain back writes (virtio 1.2, section 2.7.8, "The Virtqueue Used Ring").
-use Rattle.std.specs.Prelude.{ℕ, ◌+◌, ◌*◌, ◌/◌, ◌%◌, Bool, false, List, [], ◌∷◌, ◌++◌, slice_set}
+use Rattle.std.specs.Prelude.{ℕ, ◌+◌, ◌*◌, ◌/◌, ◌%◌, false, List, [], ◌∷◌, ◌++◌, slice_set}
 use Rattle.guest_ram.specs.Bytes.{ram_after}
 use Rattle.split_queue.specs.Queues.{Queue, queue_of, index_after}
 

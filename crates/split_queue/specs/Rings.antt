@@ -1,5 +1,5 @@
 -- What the rings and the descriptor table of a split queue hold, as numbers in RAM, low byte first (virtio 1.2, sections 2.7.5 to 2.7.8).
-use Rattle.std.specs.Prelude.{ℕ, ◌+◌, ◌*◌, ◌-◌, ◌/◌, ◌%◌, Bool, ◌==◌, List, slice_index}
+use Rattle.std.specs.Prelude.{ℕ, ◌+◌, ◌*◌, ◌-◌, ◌/◌, ◌%◌, ◌==◌, List, slice_index}
 use Rattle.split_queue.specs.declared.descriptor.Descriptor.{Descriptor}
 
 -- the byte at an address

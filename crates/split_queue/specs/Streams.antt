@@ -1,5 +1,5 @@
 -- The two streams of a chain: what stands in its ranges, joined (virtio 1.2, section 2.7.4, "Message Framing").
-use Rattle.std.specs.Prelude.{◌≡◌, ℕ, ◌+◌, ◌-◌, ◌<◌, ◌≤◌, if◌then◌else◌, nat_lt, List, [], ◌∷◌, slice_range, length}
+use Rattle.std.specs.Prelude.{ℕ, ◌+◌, ◌-◌, if◌then◌else◌, nat_lt, List, [], ◌∷◌, slice_range, length}
 use Rattle.std.specs.List.{flat_map, sum_by}
 use Rattle.guest_ram.specs.Bytes.{ram_after}
 use Rattle.split_queue.specs.Sizes.{InSize}

@@ -1,5 +1,5 @@
 -- Which chain a split queue gives next (virtio 1.2, section 2.7.6, "The Virtqueue Available Ring").
-use Rattle.std.specs.Prelude.{◌≡◌, ℕ, ◌+◌, ◌*◌, ◌-◌, ◌%◌, ◌≤◌, ◌<◌, Bool, true, false, not, ◌&&◌, ◌==◌, if◌then◌else◌, nat_le, nat_lt, Option, Some, None, Result, Ok, Err, List, length, slice_index_or, slice_set}
+use Rattle.std.specs.Prelude.{ℕ, ◌+◌, ◌*◌, ◌-◌, ◌%◌, ◌<◌, Bool, false, not, ◌&&◌, ◌==◌, if◌then◌else◌, nat_le, nat_lt, Option, Some, None, Result, Ok, Err, List, length, slice_index_or}
 use Rattle.tb_base.specs.declared.why.Why.{Why}
 use Rattle.tb_base.specs.declared.why.Why.TheVariants.{RingOutside, IndexAhead, HeadRange, HeadOut}
 use Rattle.guest_ram.specs.Bytes.{holds_range}

@@ -5,7 +5,7 @@ use Rattle.tb_base.specs.declared.why.Why.{Why}
 use Rattle.split_queue.specs.declared.descriptor.Descriptor.{Descriptor}
 use Rattle.split_queue.specs.Chains.{ChainOf, chain_of}
 use Rattle.split_queue.specs.Rings.{descriptor_at}
-use Rattle.split_queue.specs.Paths.{Start, place, nth, has_writable, fault_of, fault_at, readable_of, writable_of}
+use Rattle.split_queue.specs.Paths.{Start, nth, has_writable, fault_of, fault_at, readable_of, writable_of}
 
 -- the descriptors at some places
 abbrev pub descriptors : Start → List ℕ → List Descriptor

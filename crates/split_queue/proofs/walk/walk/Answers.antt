@@ -1,12 +1,12 @@
-use Rattle.std.proofs.Common.{◌≡◌, ℕ, ◌+◌, ◌<◌, Bool, ◌||◌, ◌∙◌, sym, ap, subst, arith, length, false, true, get_or, set, replicate, List, [], Option, Some, None, Ok, Err}
+use Rattle.std.proofs.Common.{◌≡◌, ℕ, ◌+◌, Bool, ◌||◌, ◌∙◌, sym, ap, subst, arith, false, true, set, replicate, List, [], Some, None, Ok}
 use Rattle.std.proofs.lemmas.Bool.{not-true, not-false}
-use Rattle.tb_base.specs.declared.why.Why.{Why}
 use Rattle.split_queue.specs.declared.descriptor.Descriptor.{Descriptor}
 use Rattle.split_queue.specs.declared.range.Range.{Range}
 use Rattle.split_queue.specs.Chains.{ChainOf, chain_of}
 use Rattle.split_queue.specs.Rings.{descriptor_at}
 use Rattle.split_queue.specs.Paths.{start, Start, fault_of}
-use Rattle.split_queue.specs.Walks.{added, Along}
+use Rattle.split_queue.specs.Walks.{added}
+use Rattle.split_queue.proofs.Along.{Along}
 use Rattle.split_queue.proofs.AlongLemmas.{along_room, along_start, along_met, along_fault, along_end, along_next}
 use Rattle.split_queue.proofs.walk.walk.Goals as goal
 
