@@ -1,16 +1,14 @@
 -- A pipe stands for its offers.
-use Rattle.std.proofs.Common.{◌≡◌, ℕ, zero, suc, ◌+◌, ◌*◌, ◌/◌, ◌-◌, ◌≤◌, ◌<◌, ◌^◌, max, List, [], ◌∷◌, ◌++◌, length, map, refl, sym, ap, ◌∙◌, arith, nat_eq, nat_le, true, false, Bool, cond, eqb, leb, subst, Option, Some, None}
-use Rattle.std.specs.List.{All, filter, count_by}
+use Rattle.std.proofs.Common.{◌≡◌, ℕ, zero, suc, ◌+◌, ◌*◌, ◌/◌, ◌-◌, ◌≤◌, ◌<◌, max, List, [], ◌∷◌, ◌++◌, length, map, refl, sym, ap, ◌∙◌, arith, nat_le, true, false, Bool, cond, eqb, leb, subst, Option, Some, None}
 use Rattle.std.proofs.lemmas.List.{length_push, get_or_append_left, get_or_push}
 use Rattle.std.proofs.lemmas.List.Sums.{length-filter}
 use Rattle.std.proofs.lemmas.List.Elements.{All-head, All-tail, filter-append}
-use Rattle.std.proofs.lemmas.Bool.{eqb-true, eqb-false, eq-eqb, ne_eqb, le-leb, lt-leb, leb-true, leb-false}
+use Rattle.std.proofs.lemmas.Bool.{eqb-true, eqb-false, ne_eqb, le-leb, lt-leb, leb-false}
 use Rattle.std.proofs.Math.Nat.{le-div_iff_mul-le}
 use Rattle.link_pipe.specs.declared.pipe_params.PipeParams.{PipeParams}
-use Rattle.link_pipe.specs.Offers.{Offer, offer, Leaving, leaving, Past, PipeAt, nth, end_of, leave_of, is_dropped, after_offer, past, fate, accepted, leaving_in, leaving_from, pipe_at}
-use Rattle.link_pipe.specs.Piped.{Piped, StandsFor, InLimits, NoneBefore, InOrder, IsNear, Sound, is_full, placed, offered, ended, front_in, rest_in}
+use Rattle.link_pipe.specs.Offers.{Offer, offer, Leaving, leaving, Past, PipeAt, nth, end_of, leave_of, is_dropped, after_offer, past, fate, accepted, leaving_in, leaving_from}
+use Rattle.link_pipe.specs.Piped.{Piped, StandsFor, NoneBefore, InOrder, is_full, placed, offered, ended, front_in, rest_in}
 use Rattle.link_pipe.specs.Answers.{answer_of}
-use Rattle.link_pipe.specs.declared.offered.Offered.{Offered}
 use Rattle.link_pipe.specs.declared.offered.Offered.TheVariants.{Taken, Dropped}
 
 nth_before : (h : List Offer) (o : Offer) (i : ℕ) → i < length h → nth (h ++ o ∷ []) i ≡ nth h i

@@ -1,12 +1,12 @@
 -- What every pipe keeps: the order of its frames, and an end that is near.
-use Rattle.std.proofs.Common.{◌≡◌, ℕ, zero, suc, ◌+◌, ◌*◌, ◌/◌, ◌-◌, ◌≤◌, ◌<◌, ◌^◌, max, List, [], ◌∷◌, ◌++◌, length, refl, sym, ap, ◌∙◌, arith, nat_eq, true, false, Bool, cond, eqb, subst, slice_get, Option, Some, None}
+use Rattle.std.proofs.Common.{◌≡◌, ℕ, suc, ◌+◌, ◌*◌, ◌/◌, ◌-◌, ◌≤◌, ◌<◌, ◌^◌, max, List, [], ◌∷◌, ◌++◌, length, refl, ap, arith, true, false, Bool, cond, eqb, subst, slice_get, Some, None}
 use Rattle.std.proofs.lemmas.List.{length_push}
-use Rattle.std.proofs.lemmas.List.Elements.{All-head, All-tail, All-nil, All-cons, All-weaker}
+use Rattle.std.proofs.lemmas.List.Elements.{All-head, All-nil, All-cons, All-weaker}
 use Rattle.std.proofs.lemmas.Bool.{eqb-true, eqb-false, ne_eqb, le-leb, lt-leb}
 use Rattle.std.proofs.Math.Nat.{mul-le-mul_left, mul_comm, le-div_iff_mul-le, div-mul-le_self, div-lt_iff_lt-mul}
 use Rattle.link_pipe.specs.declared.pipe_params.PipeParams.{PipeParams}
-use Rattle.link_pipe.specs.Offers.{Leaving, leaving, PipeAt}
-use Rattle.link_pipe.specs.Piped.{Piped, piped, NoneBefore, InOrder, IsNear, Sound, front_in, rest_in, offered, ended, InLimits}
+use Rattle.link_pipe.specs.Offers.{Leaving, leaving}
+use Rattle.link_pipe.specs.Piped.{piped, NoneBefore, InOrder, IsNear, Sound, front_in, rest_in, offered, ended}
 
 mul_mono : (b m n : ℕ) → m ≤ n → m * b ≤ n * b
 mul_mono b m n h = rw (mul_comm m b, mul_comm n b) (mul-le-mul_left b h)

@@ -1,5 +1,5 @@
 -- The pipe: the fate of each offer, over the whole list of offers.
-use Rattle.std.specs.Prelude.{◌≡◌, ℕ, zero, suc, ◌+◌, ◌-◌, ◌*◌, ◌/◌, max, Bool, if◌then◌else◌, nat_le, nat_eq, Option, Some, None, List, [], ◌∷◌, ◌++◌, length, slice_index_or}
+use Rattle.std.specs.Prelude.{ℕ, zero, suc, ◌+◌, ◌-◌, ◌*◌, ◌/◌, max, Bool, if◌then◌else◌, nat_le, nat_eq, Option, Some, None, List, [], ◌∷◌, ◌++◌, length, slice_index_or}
 use Rattle.std.specs.List.{filter, count_by}
 use Rattle.link_pipe.specs.declared.pipe_params.PipeParams.{PipeParams}
 

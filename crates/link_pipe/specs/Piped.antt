@@ -1,5 +1,5 @@
 -- What a contract sees of a pipe.
-use Rattle.std.specs.Prelude.{◌≡◌, ℕ, suc, ◌+◌, ◌-◌, ◌*◌, ◌/◌, ◌≤◌, ◌<◌, max, if◌then◌else◌, nat_le, nat_eq, List, [], ◌∷◌, ◌++◌, length, map, Option, Some, None, Bool}
+use Rattle.std.specs.Prelude.{◌≡◌, ℕ, suc, ◌+◌, ◌-◌, ◌*◌, ◌/◌, ◌≤◌, ◌<◌, max, if◌then◌else◌, nat_le, nat_eq, List, [], ◌∷◌, ◌++◌, length, Bool}
 use Rattle.std.specs.List.{All}
 use Rattle.link_pipe.specs.declared.pipe_params.PipeParams.{PipeParams}
 use Rattle.link_pipe.specs.Offers.{PipeAt, Leaving, leaving, Offer, pipe_at}

@@ -1,4 +1,4 @@
-use Rattle.std.proofs.Common.{◌≡◌, ℕ, ◌+◌, ◌≤◌, ◌∙◌, sym, ap, subst}
+use Rattle.std.proofs.Common.{◌≤◌, ◌∙◌, sym, ap, subst}
 use Rattle.link_pipe.specs.Piped.{Piped, NoneBefore, InOrder, ended}
 use Rattle.link_pipe.proofs.Kept.{sound_ended, ended_is, order_later}
 use Rattle.link_pipe.proofs.pipe.Pipe.give_up.Goals as goal

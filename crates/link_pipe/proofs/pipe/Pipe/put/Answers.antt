@@ -1,4 +1,4 @@
-use Rattle.std.proofs.Common.{◌≡◌, ℕ, ◌+◌, ◌-◌, ◌/◌, ◌<◌, ◌≤◌, ◌++◌, ◌∷◌, [], ◌∙◌, sym, ap, subst, arith, length, inl, inr, refl}
+use Rattle.std.proofs.Common.{◌<◌, ◌≤◌, ◌∙◌, sym, ap, subst, arith, length, inl, inr, refl}
 use Rattle.std.proofs.lemmas.Bool.{cases_lt, false≢true}
 use Rattle.link_pipe.specs.Piped.{Piped, NoneBefore, offered}
 use Rattle.link_pipe.proofs.Kept.{fits_put, sound_later, sound_put, offered_put, offered_full}
