@@ -17,10 +17,6 @@ StandsFor s h = s.place ≡ disk_at s.costs h
 
 -- the server after one more request, from what it holds alone
 unfoldable pub admitted : Server → ℕ → ℕ → ℕ → Server
-admitted s n sector count = record {
-  costs = s.costs;
-  place = record {
-    head = sector + count;
-    free = min (max n s.place.free + (s.costs.base + distance sector s.place.head * s.costs.seek_num / s.costs.seek_den + s.costs.per_sector * count)) (2 ^ 63);
-  };
-}
+admitted s n sector count =
+    let service : ℕ = s.costs.base + distance sector s.place.head * s.costs.seek_num / s.costs.seek_den + s.costs.per_sector * count in
+    record { costs = s.costs; place = record { head = sector + count; free = min (max n s.place.free + service) (2 ^ 63) } }

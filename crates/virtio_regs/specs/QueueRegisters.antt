@@ -29,27 +29,32 @@ opening_queue = record { num = 64; ready = false; desc_low = 0; desc_high = 0; d
 -- the size and the addresses of a queue that is not ready, after a word was stored
 abbrev pub queue_set : QueueState → ℕ → ℕ → QueueState
 queue_set q off v =
-    if off == 0x38 then (if is_queue_size v then record q { num = v } else q) else
-    if off == 0x80 then record q { desc_low = v } else
-    if off == 0x84 then record q { desc_high = v } else
-    if off == 0x90 then record q { driver_low = v } else
-    if off == 0x94 then record q { driver_high = v } else
-    if off == 0xa0 then record q { device_low = v } else
-    if off == 0xa4 then record q { device_high = v } else q
+    if off == 0x38 then (if is_queue_size v then record q { num = v } else q) else  -- QueueNum
+    if off == 0x80 then record q { desc_low = v } else  -- QueueDescLow
+    if off == 0x84 then record q { desc_high = v } else  -- QueueDescHigh
+    if off == 0x90 then record q { driver_low = v } else  -- QueueDriverLow
+    if off == 0x94 then record q { driver_high = v } else  -- QueueDriverHigh
+    if off == 0xa0 then record q { device_low = v } else  -- QueueDeviceLow
+    if off == 0xa4 then record q { device_high = v } else q  -- QueueDeviceHigh
 
 -- a queue after a word was stored at an offset: QueueReady keeps bit 0, and a queue that is ready keeps all else
 abbrev pub queue_after : QueueState → ℕ → ℕ → QueueState
 queue_after q off v =
-    if off == 0x44 then record q { ready = v % 2 == 1 } else
+    if off == 0x44 then record q { ready = v % 2 == 1 } else  -- QueueReady
     if q.ready then q else queue_set q off v
 
 -- what that did
 abbrev pub queue_done : QueueState → ℕ → ℕ → ℕ → RegDone
 queue_done q i off v =
-    if off == 0x44 then (
+    if off == 0x44 then ( -- QueueReady
     if v % 2 == 1 && not q.ready then done.QueueUp i else
     if q.ready && not (v % 2 == 1) then done.QueueDown i else done.Done
     ) else done.Done
 
 abbrev pub set_of : QueueState → QueueSet
-set_of q = record { size = q.num; desc = q.desc_high * 2 ^ 32 + q.desc_low; driver = q.driver_high * 2 ^ 32 + q.driver_low; device = q.device_high * 2 ^ 32 + q.device_low }
+set_of q = record {
+  size = q.num;
+  desc = q.desc_high * 2 ^ 32 + q.desc_low;
+  driver = q.driver_high * 2 ^ 32 + q.driver_low;
+  device = q.device_high * 2 ^ 32 + q.device_low;
+}

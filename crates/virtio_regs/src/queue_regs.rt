@@ -25,7 +25,16 @@ impl Model for QueueRegs {
 
     ghost Value = { QueueState };
 
-    ghost view = { λ q. record { num = q.num; ready = q.ready; desc_low = q.desc_low; desc_high = q.desc_high; driver_low = q.driver_low; driver_high = q.driver_high; device_low = q.device_low; device_high = q.device_high } };
+    ghost view = { λ q. record {
+      num = q.num;
+      ready = q.ready;
+      desc_low = q.desc_low;
+      desc_high = q.desc_high;
+      driver_low = q.driver_low;
+      driver_high = q.driver_high;
+      device_low = q.device_low;
+      device_high = q.device_high;
+    } };
 
     ghost invariant = { λ q. IsQueueSize q.num };
 }

@@ -36,7 +36,19 @@ impl Model for Regs {
 
     ghost Value = { RegsState };
 
-    ghost view = { λ r. record { kind = r.kind; status = r.status; used = r.used; changed = r.changed; device_sel = r.device_sel; driver_sel = r.driver_sel; driver_low = r.driver_low; driver_high = r.driver_high; queue_sel = r.queue_sel; first = r.first; second = r.second } };
+    ghost view = { λ r. record {
+      kind = r.kind;
+      status = r.status;
+      used = r.used;
+      changed = r.changed;
+      device_sel = r.device_sel;
+      driver_sel = r.driver_sel;
+      driver_low = r.driver_low;
+      driver_high = r.driver_high;
+      queue_sel = r.queue_sel;
+      first = r.first;
+      second = r.second;
+    } };
 }
 
 /// What a device of a kind offers, in a word of its features.

@@ -1,0 +1,8 @@
+//! Ranges.
+
+/// A range of RAM.
+#[derive(Clone, Copy, Debug, Default)]
+pub struct Range {
+    pub addr: u64,
+    pub len: u32,
+}
