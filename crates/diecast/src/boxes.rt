@@ -46,13 +46,15 @@ pub(crate) fn run_with<F: Files, O: Sink, M: Sink>(
     out: &mut O,
     msg: &mut M,
 ) -> Result<Status, NoMemory>
-    ensures ends { IfOk result (Ends (world (map string_bytes words.now) (F.held files.old) (F.faults files.old) (F.faults files.new) (F.fault_name files.new) (O.taken out.old) (O.taken out.new) (O.faults out.old) (O.faults out.new) 32 32)) }
+    ensures ends { IfOk result (Ends (world (map string_bytes words.now) (F.held files.old) (F.faults files.old) (F.faults files.new) (F.fault_name files.new)
+        (O.taken out.old) (O.taken out.new) (O.faults out.old) (O.faults out.new) 32 32)) }
 
     // There are boxes for each experiment that may run.
     ensures complete { (e : Experiment) → MayRun (map string_bytes words.now) (F.held files.old) e
-        → ¬ Rose (F.faults files.old) (F.faults files.new) → ¬ Rose (O.faults out.old) (O.faults out.new) → IfOk result (λ status. (status ≡ Status.Done) ⊎ (status ≡ Status.Memory)) }
-    ensures planned { (e : Experiment) → AsksPlan (map string_bytes words.now) (F.held files.old) e
-        → ¬ Rose (F.faults files.old) (F.faults files.new) → IfOk result (Plans e (placed e) (O.taken out.old) (O.taken out.new) (O.faults out.old) (O.faults out.new)) }
+        → ¬ Rose (F.faults files.old) (F.faults files.new) → ¬ Rose (O.faults out.old) (O.faults out.new)
+        → IfOk result (λ status. (status ≡ Status.Done) ⊎ (status ≡ Status.Memory)) }
+    ensures planned { (e : Experiment) → AsksPlan (map string_bytes words.now) (F.held files.old) e → ¬ Rose (F.faults files.old) (F.faults files.new)
+        → IfOk result (Plans e (placed e) (O.taken out.old) (O.taken out.new) (O.faults out.old) (O.faults out.new)) }
     ensures told { IfOk result (λ status. Told status (M.taken msg.old) (M.taken msg.new) (M.faults msg.old) (M.faults msg.new)) }
 
     // No command asks for a device that is not there.

@@ -1,5 +1,5 @@
 -- The boxes are counted.
-use Rattle.std.proofs.Common.{◌≡◌, ℕ, map, length, string_bytes, Global, arith}
+use Rattle.std.proofs.Common.{◌≡◌, map, length, string_bytes, Global, arith}
 use Rattle.tb_top.specs.Ends.{Ends, world}
 use Rattle.diecast.proofs.Supplied.{as_counted, boxes_suffice, supplied}
 use Rattle.diecast.proofs.boxes.run_with.Goals as goal

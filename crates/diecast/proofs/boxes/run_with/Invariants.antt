@@ -1,4 +1,4 @@
-use Rattle.std.proofs.Common.{◌≡◌, ◌-◌, All, map, length}
+use Rattle.std.proofs.Common.{◌≡◌, All, map, length}
 use Rattle.dev_face.specs.States.{IsBlankFor}
 use Rattle.dev_face.specs.declared.config.DevConfig.TheVariants as config
 use Rattle.dev_face.specs.contracts.boxed.BoxDynDeviceDevice.TheImpl.{state-value}
