@@ -19,6 +19,13 @@ const WELL_FORMED: [(u32, u32); 8] = [
 /// Words that change nothing.
 const NONE: (u32, u32) = (0x8000_0f00, 0);
 
+/// Stores words in RAM.
+fn put_words(ram: &mut Ram, words: &[(u32, u32)]) {
+    for &(addr, word) in words {
+        let _ = ram.store(addr, Width::Word, word);
+    }
+}
+
 #[test]
 fn malformed_queues_are_told(rt: HostRuntime) {
     for (used, words, why) in [
@@ -72,12 +79,8 @@ fn malformed_queues_are_told(rt: HostRuntime) {
         let Ok(mut ram) = Ram::new(rt.alloc(), 4096) else {
             panic!(rt; "no memory");
         };
-        for (addr, word) in WELL_FORMED {
-            assert!(rt; ram.store(addr, Width::Word, word) == Ok(()));
-        }
-        for (addr, word) in words {
-            assert!(rt; ram.store(addr, Width::Word, word) == Ok(()));
-        }
+        put_words(&mut ram, &WELL_FORMED);
+        put_words(&mut ram, &words);
         let mut queue = SplitQueue::new(4, 0x8000_0000, 0x8000_0100, used);
         assert!(rt;
             matches!(queue.take_chain(&ram), Took::Broken(found) if found == why),
@@ -91,10 +94,8 @@ fn a_chain_is_taken_and_put_back(rt: HostRuntime) {
     let Ok(mut ram) = Ram::new(rt.alloc(), 4096) else {
         panic!(rt; "no memory");
     };
-    for (addr, word) in WELL_FORMED {
-        assert!(rt; ram.store(addr, Width::Word, word) == Ok(()));
-    }
-    assert!(rt; ram.store(0x8000_0400, Width::Word, 0x0403_0201) == Ok(()));
+    put_words(&mut ram, &WELL_FORMED);
+    put_words(&mut ram, &[(0x8000_0400, 0x0403_0201)]);
     let mut queue = SplitQueue::new(4, 0x8000_0000, 0x8000_0100, 0x8000_0200);
     let Took::Chain(chain) = queue.take_chain(&ram) else {
         panic!(rt; "no chain");
@@ -115,7 +116,7 @@ fn a_chain_is_taken_and_put_back(rt: HostRuntime) {
         assert!(rt; ram.load(addr, Width::Word) == Ok(want), "at {addr:x}");
     }
     // the same head twice: the second time it is out
-    assert!(rt; ram.store(0x8000_0100, Width::Word, 0x0003_0000) == Ok(()));
+    put_words(&mut ram, &[(0x8000_0100, 0x0003_0000)]);
     assert!(rt; matches!(queue.take_chain(&ram), Took::Chain(_)));
     assert!(rt; matches!(queue.take_chain(&ram), Took::Broken(Why::HeadOut)));
 }
