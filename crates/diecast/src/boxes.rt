@@ -7,12 +7,14 @@ ghost use Rattle.dev_face.specs.States.{IsBlankFor};
 ghost use Rattle.dev_face.specs.declared.kind.Kind.{Kind};
 ghost use Rattle.bench_build.specs.declared.build_fault.BuildFault.TheVariants as build;
 ghost use Rattle.tb_top.specs.Ends.{Ends, world, MayRun};
+ghost use Rattle.tb_top.specs.Headline.{Headline};
 ghost use Rattle.tb_top.specs.Lines.{Told};
 ghost use Rattle.tb_top.specs.Plans.{Plans};
 ghost use Rattle.diecast.specs.Asked.{AsksPlan};
 
 use clint_dev::Clint;
 use dev_face::{DevConfig, Device};
+use exp_file::guests_are_few;
 use std::alloc::Global;
 use tb_base::NoMemory;
 use tb_base::limits::GUESTS;
@@ -48,6 +50,8 @@ pub(crate) fn run_with<F: Files, O: Sink, M: Sink>(
 ) -> Result<Status, NoMemory>
     ensures ends { IfOk result (Ends (world (map string_bytes words.now) (F.held files.old) (F.faults files.old) (F.faults files.new) (F.fault_name files.new)
         (O.taken out.old) (O.taken out.new) (O.faults out.old) (O.faults out.new) 32 32)) }
+    ensures headline { IfOk result (Headline (world (map string_bytes words.now) (F.held files.old) (F.faults files.old) (F.faults files.new) (F.fault_name files.new)
+        (O.taken out.old) (O.taken out.new) (O.faults out.old) (O.faults out.new) 32 32)) }
 
     // There are boxes for each experiment that may run.
     ensures complete { (e : Experiment) → MayRun (map string_bytes words.now) (F.held files.old) e
@@ -80,5 +84,6 @@ pub(crate) fn run_with<F: Files, O: Sink, M: Sink>(
             Err(_) => return Err(NoMemory),
         }
     }
+    guests_are_few();
     Ok(diecast(alloc, words, files, out, msg, Stock { clints, uarts }))
 }
