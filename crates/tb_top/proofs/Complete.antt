@@ -1,5 +1,5 @@
 -- Where all that is told is right and nothing fails, a run comes to its end, or finds no memory.
-use Rattle.std.proofs.Common.{◌≡◌, ℕ, ◌<◌, ◌≤◌, ◌⊎◌, List, length, Option, Some, inl, inr, refl, sym, ap, subst, arith}
+use Rattle.std.proofs.Common.{◌≡◌, ℕ, ◌<◌, ◌≤◌, ◌⊎◌, List, length, Some, inl, inr, refl, sym, ap, subst, arith}
 use Rattle.std.specs.Prelude.{slice_get}
 use Rattle.tb_base.specs.declared.limits.TheConstants.{IMAGE_FILE}
 use Rattle.tb_io.specs.Causes.{Rose}

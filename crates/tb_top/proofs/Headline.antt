@@ -1,5 +1,5 @@
 -- The headline follows from how a command ends.
-use Rattle.std.proofs.Common.{◌≡◌, ℕ, ◌<◌, ◌≤◌, ◌⊎◌, List, length, Option, inl, inr, refl, sym, ap, ◌∙◌, subst, arith}
+use Rattle.std.proofs.Common.{◌≡◌, ℕ, ◌<◌, ◌≤◌, ◌⊎◌, List, length, inl, inr, refl, subst, arith}
 use Rattle.std.specs.Fmt.{decimal}
 use Rattle.std.proofs.lemmas.Fmt.{decimal_injective}
 use Rattle.exp_file.specs.Lists.{without_room}
@@ -12,7 +12,6 @@ use Rattle.host_journal.specs.Printed.{count_of, up_to_tick}
 use Rattle.slot_sched.specs.Legal.{start, IsComplete}
 use Rattle.slot_sched.proofs.Telling.{tells, kept_up, legal_up_to, past_complete}
 use Rattle.bench_build.specs.Setups.{run_rules}
-use Rattle.bench_build.specs.Stocks.{Suffices}
 use Rattle.bench_build.specs.declared.build_fault.BuildFault.{BuildFault}
 use Rattle.bench_build.specs.declared.build_fault.BuildFault.TheVariants as build
 use Rattle.tb_top.specs.Ends.{World, Ends, Asks, Placed, Loaded, PutsTask, Quiet, IsPartPut}
