@@ -2,7 +2,6 @@
 use Rattle.std.specs.Prelude.{ℕ, ◌+◌, ◌==◌, Bool, true, false, List, [], ◌∷◌, if◌then◌else◌}
 use Rattle.std.specs.List.{flat_map, fold, sum_by}
 use Rattle.trace_rec.specs.declared.rec.Rec.{Rec}
-use Rattle.host_journal.specs.declared.quantum.Quantum.{Quantum}
 use Rattle.host_journal.specs.Entries.{Entry, Host, Slot, Ran, End}
 
 -- the records of its quanta, in order

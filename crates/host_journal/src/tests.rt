@@ -9,7 +9,7 @@ use tb_base::{ItemList, Name};
 use tb_io::MemSink;
 use trace_rec::{Log, Rec, What};
 
-/// One guest at half speed on one slot, for four host ticks.
+/// One guest at half speed on one slot, for two host ticks.
 fn keeper(alloc: Global) -> Result<JournalKeep, Fail>
     ensures { IfOk result (λ keep. 0 < length (head_of keep).names.items) }
 {
@@ -18,18 +18,18 @@ fn keeper(alloc: Global) -> Result<JournalKeep, Fail>
     let head = Head {
         factor: 2,
         slots: 1,
-        host_ticks: 4,
+        host_ticks: 2,
         names,
     };
     Ok(JournalKeep::new(alloc, head)?)
 }
 
-/// The records of a tick: two jumps in place.
-fn jumps(alloc: Global, tick: u64) -> Result<Log, Fail> {
+/// The records of the first tick: two jumps in place.
+fn jumps(alloc: Global) -> Result<Log, Fail> {
     let mut recs = Log::new(alloc);
     for _ in 0..2 {
         recs.push(Rec {
-            tick,
+            tick: 0,
             what: What::Instr {
                 pc: 0x8000_0000,
                 word: 0x6f,
@@ -62,9 +62,19 @@ fn put_tick(
     Ok(())
 }
 
+/// Both host ticks, of which the guest ends its first tick in the second.
+fn put_run(keep: &mut JournalKeep, out: &mut MemSink, none: &Log, recs: &Log) -> Result<(), KeepErr>
+    requires { 0 < length (head_of keep.old).names.items }
+{
+    keep.start(out)?;
+    put_tick(keep, out, 1, 0, none)?;
+    put_tick(keep, out, 2, 1, recs)?;
+    keep.finish(out)
+}
+
 #[test]
 fn a_journal_has_its_lines(rt: HostRuntime) -> Result<(), Fail> {
-    let wanted = b"diecast 1 factor 2 slots 1 guests 1 host 4\n\
+    let wanted = b"diecast 1 factor 2 slots 1 guests 1 host 2\n\
 host 1\n\
 slot 0\n\
 run 0 units 1 done 0\n\
@@ -73,24 +83,12 @@ slot 0\n\
 run 0 units 1 done 1\n\
 0 0 instr 80000000 0000006f\n\
 0 0 instr 80000000 0000006f\n\
-host 3\n\
-slot 0\n\
-run 0 units 1 done 1\n\
-host 4\n\
-slot 0\n\
-run 0 units 1 done 2\n\
-1 0 instr 80000000 0000006f\n\
-1 0 instr 80000000 0000006f\n\
-end 4\n";
+end 2\n";
     let none = Log::new(rt.alloc());
+    let recs = jumps(rt.alloc())?;
     let mut out = MemSink::new(rt.alloc(), 1000)?;
     let mut keep = keeper(rt.alloc())?;
-    keep.start(&mut out)?;
-    put_tick(&mut keep, &mut out, 1, 0, &none)?;
-    put_tick(&mut keep, &mut out, 2, 1, &jumps(rt.alloc(), 0)?)?;
-    put_tick(&mut keep, &mut out, 3, 1, &none)?;
-    put_tick(&mut keep, &mut out, 4, 2, &jumps(rt.alloc(), 1)?)?;
-    keep.finish(&mut out)?;
+    put_run(&mut keep, &mut out, &none, &recs)?;
     assert_eq!(rt; out.bytes(), wanted.as_slice());
     Ok(())
 }
@@ -108,7 +106,7 @@ fn a_failed_put_is_the_last(rt: HostRuntime) -> Result<(), Fail> {
     );
     assert_eq!(rt; keep.host(&mut out, 2), Err(KeepErr::NoMemory));
     assert_eq!(rt; keep.finish(&mut out), Err(KeepErr::NoMemory));
-    let wanted = b"diecast 1 factor 2 slots 1 guests 1 host 4\nhost 1\nslo";
+    let wanted = b"diecast 1 factor 2 slots 1 guests 1 host 2\nhost 1\nslo";
     assert_eq!(rt; out.bytes(), wanted.as_slice());
     Ok(())
 }
