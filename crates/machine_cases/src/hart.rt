@@ -1,33 +1,30 @@
 //! One step of each instruction with operands at the edges, with the answers of qemu-system-riscv32 7.2, which
 //! tries the decoder, the arithmetic and the registers too; the values in mtval of traps, and waits and interrupts,
 //! by hand from the privileged manual.
-ghost use Rattle.std.specs.Prelude.{List, ℕ, Bool, false};
+ghost use Rattle.std.specs.Prelude.{List, ℕ, Bool};
+ghost use Rattle.csr_file.specs.declared.lines.Lines.{Lines};
 ghost use Rattle.guest_ram.specs.Bytes.{ram_load, place_of, at_place, bytes_after};
 ghost use Rattle.tb_base.specs.declared.width.Width.TheVariants.{Word};
 
-use crate::{Bus, Hart, Stepped};
-use csr_file::{CsrView, Lines};
+use csr_file::{CsrFile, Lines};
 use guest_ram::{MemFault, Ram};
+use rv_exec::{Bus, Hart, Stepped};
 use tb_base::Width;
 
-const SLOT: u32 = 0x8000_0c00;
-
-const DATA: u32 = 0x8000_0e00;
-
-/// RAM alone, with a timer line.
+/// RAM alone, with interrupt lines.
 #[derive(Drop)]
 struct RamBus {
     ram: Ram,
-    timer: bool,
+    lines: Lines,
     stopped: bool,
 }
 
 impl Bus for RamBus {
-    ghost State = { List ℕ × Bool × Bool };
+    ghost State = { List ℕ × Lines × Bool };
 
-    ghost bus_state = { λ b. (b.ram, b.timer, b.stopped) };
+    ghost bus_state = { λ b. (b.ram, b.lines, b.stopped) };
 
-    ghost bus = { record { fetched = λ s pc. ram_load s.0 pc Word; loaded = λ s addr width. ram_load s.0 addr width; stored = λ s addr width v. at_place (place_of s.0 addr width) (λ at. (bytes_after s.0 at width v, s.1, s.2)); lines_of = λ s. record { software = false; timer = s.1; external = false }; now_of = λ s. 0; is_stopped = λ s. s.2 } };
+    ghost bus = { record { fetched = λ s pc. ram_load s.0 pc Word; loaded = λ s addr width. ram_load s.0 addr width; stored = λ s addr width v. at_place (place_of s.0 addr width) (λ at. (bytes_after s.0 at width v, s.1, s.2)); lines_of = λ s. s.1; now_of = λ s. 0; is_stopped = λ s. s.2 } };
 
     ghost ready = { λ _. Unit {0} };
 
@@ -44,11 +41,7 @@ impl Bus for RamBus {
     }
 
     fn lines(&self) -> Lines {
-        Lines {
-            software: false,
-            timer: self.timer,
-            external: false,
-        }
+        self.lines
     }
 
     fn now(&self) -> u64 {
@@ -57,6 +50,54 @@ impl Bus for RamBus {
 
     fn stopped(&self) -> bool {
         self.stopped
+    }
+}
+
+/// No line is up.
+const NONE: Lines = Lines {
+    software: false,
+    timer: false,
+    external: false,
+};
+
+/// RAM with no line up.
+fn bus_with(ram: Ram) -> RamBus {
+    RamBus {
+        ram,
+        lines: NONE,
+        stopped: false,
+    }
+}
+
+/// Puts words into RAM, from an address on.
+fn put_words(ram: &mut Ram, at: u32, words: &[u32]) -> bool {
+    let mut addr = at;
+    for word in words {
+        if ram.store(addr, Width::Word, *word).is_err() {
+            return false;
+        }
+        addr = addr.wrapping_add(4);
+    }
+    true
+}
+
+/// Whether a hart retires so many instructions, one a step.
+fn retires(hart: &mut Hart, bus: &mut RamBus, count: u32) -> bool {
+    for _ in 0..count {
+        let Stepped::Retired { .. } = hart.step(bus) else {
+            return false;
+        };
+    }
+    true
+}
+
+/// A register of control or status, as an instruction at the pc reads it into x6.
+fn csr_of(hart: &mut Hart, bus: &mut RamBus, number: u32) -> Option<u32> {
+    let word = number << 20 | 0x2373;
+    if bus.ram.store(hart.pc(), Width::Word, word).is_ok() && retires(hart, bus, 1) {
+        Some(hart.reg(6))
+    } else {
+        None
     }
 }
 
@@ -193,58 +234,66 @@ const WORDS_TRAPPED: [[u32; 5]; 20] = rows! {
     0x0020a023, 0x80001000, 0x00000000, 0x00000007, 0x80001000;
 };
 
-const VIEW: CsrView = CsrView {
-    lines: Lines {
-        software: false,
-        timer: false,
-        external: false,
-    },
-    time: 0,
-    cycle: 0,
-    instret: 0,
-};
+/// Where the instruction of a row stands.
+const SLOT: u32 = 0x8000_0c00;
 
-/// A hart before the instruction of a row.
-fn hart_at_slot(x1: u32, x2: u32) -> Hart {
-    let mut hart = Hart::new(SLOT);
-    hart.regs[1] = x1;
-    hart.regs[2] = x2;
-    hart.regs[3] = 0x5a5a_5a5a;
-    let _ = hart.csrs.write(0x340, 0x1234_5678);
-    hart
-}
+/// Where its word of data stands.
+const DATA: u32 = 0x8000_0e00;
 
-/// RAM with a word to be done, and a word of data.
-fn bus_with(ram: Ram) -> RamBus {
-    RamBus {
-        ram,
-        timer: false,
-        stopped: false,
-    }
+/// Where traps of a row go to.
+const HANDLER: u32 = 0x8000_0d00;
+
+/// What comes before the instruction of a row: mtvec, mscratch, x3, x1 and x2 are set, from the words at `OPERANDS`.
+const OPENING: [u32; 8] = [
+    0x0000_0217, // auipc x4, 0
+    0x1202_0293, // addi x5, x4, 0x120
+    0x3052_9073, // csrrw x0, mtvec, x5
+    0x3002_2183, // lw x3, 0x300(x4)
+    0x3401_9073, // csrrw x0, mscratch, x3
+    0x3042_2183, // lw x3, 0x304(x4)
+    0x3082_2083, // lw x1, 0x308(x4)
+    0x30c2_2103, // lw x2, 0x30c(x4)
+];
+
+const START: u32 = 0x8000_0be0;
+
+const OPERANDS: u32 = 0x8000_0ee0;
+
+/// A hart before the instruction of a row, and whether it came there.
+fn hart_at_slot(bus: &mut RamBus, [word, x1, x2]: [u32; 3]) -> Option<Hart> {
+    let mut hart = Hart::new(START);
+    let ready = put_words(&mut bus.ram, START, &OPENING)
+        && put_words(&mut bus.ram, OPERANDS, &[0x1234_5678, 0x5a5a_5a5a, x1, x2])
+        && put_words(&mut bus.ram, SLOT, &[word])
+        && put_words(&mut bus.ram, DATA, &[0x8697_a4b5])
+        && retires(&mut hart, bus, 8);
+    if ready { Some(hart) } else { None }
 }
 
 /// Whether the instruction of a row is done, and leaves what the row says.
 fn is_done(bus: &mut RamBus, row: [u32; 7]) -> bool {
     let [word, x1, x2, pc, x3, data, scratch] = row;
-    let mut hart = hart_at_slot(x1, x2);
-    bus.ram.store(SLOT, Width::Word, word).is_ok()
-        && bus.ram.store(DATA, Width::Word, 0x8697_a4b5).is_ok()
-        && hart.step(bus) == Stepped::Retired { pc: SLOT, word }
+    let Some(mut hart) = hart_at_slot(bus, [word, x1, x2]) else {
+        return false;
+    };
+    hart.step(bus) == Stepped::Retired { pc: SLOT, word }
         && hart.pc() == pc
         && hart.reg(3) == x3
         && bus.ram.load(DATA, Width::Word) == Ok(data)
-        && hart.csrs.read(0x340, &VIEW) == Some(scratch)
+        && csr_of(&mut hart, bus, 0x340) == Some(scratch)
 }
 
 /// Whether the instruction of a row traps, with the cause and the value of the row.
 fn is_trapped(bus: &mut RamBus, row: [u32; 5]) -> bool {
     let [word, x1, x2, cause, value] = row;
-    let mut hart = hart_at_slot(x1, x2);
-    bus.ram.store(SLOT, Width::Word, word).is_ok()
-        && hart.step(bus) == Stepped::Trapped { cause, pc: SLOT }
+    let Some(mut hart) = hart_at_slot(bus, [word, x1, x2]) else {
+        return false;
+    };
+    hart.step(bus) == Stepped::Trapped { cause, pc: SLOT }
+        && hart.pc() == HANDLER
         && hart.reg(3) == 0x5a5a_5a5a
-        && hart.csrs.read(0x343, &VIEW) == Some(value)
-        && hart.csrs.read(0x341, &VIEW) == Some(SLOT)
+        && csr_of(&mut hart, bus, 0x343) == Some(value)
+        && csr_of(&mut hart, bus, 0x341) == Some(SLOT)
 }
 
 #[test]
@@ -261,76 +310,95 @@ fn instructions_do_as_on_qemu(rt: HostRuntime) {
     }
 }
 
-/// A step.
-fn next(hart: &mut Hart, bus: &mut RamBus) -> Stepped {
-    hart.step(bus)
-}
+/// The timer is enabled, mepc points two bytes past a wait, and MPIE is set; then the wait, and a return from a trap.
+const WAITING: [u32; 10] = [
+    0x0000_0217, // auipc x4, 0
+    0x0800_0293, // addi x5, x0, 0x80
+    0x3042_9073, // csrrw x0, mie, x5
+    0x3002_9073, // csrrw x0, mstatus, x5
+    0x0222_0293, // addi x5, x4, 0x22
+    0x3412_9073, // csrrw x0, mepc, x5
+    0x0402_0293, // addi x5, x4, 0x40
+    0x3052_9073, // csrrw x0, mtvec, x5
+    0x1050_0073, // wfi
+    0x3020_0073, // mret
+];
 
-/// Writes a register of the hart.
-fn write(hart: &mut Hart, addr: u32, value: u32) -> bool {
-    hart.csrs.write(addr, value)
-}
-
+/// A wait: a line that is not enabled does not end it, nor does any while the machine is stopped; one that is enabled
+/// does, also where no trap is taken. The return goes to the word's start, and there the trap is taken.
 #[test]
 fn a_wait_ends_at_an_enabled_line(rt: HostRuntime) {
     let Ok(ram) = Ram::new(rt.alloc(), 4096) else {
         panic!(rt; "no memory");
     };
+    let base = 0x8000_0000;
     let mut bus = bus_with(ram);
-    let (wfi, mret) = (0x1050_0073, 0x3020_0073);
-    assert!(rt; bus.ram.store(SLOT, Width::Word, wfi).is_ok());
-    assert!(rt; bus.ram.store(SLOT + 4, Width::Word, mret).is_ok());
-    let mut hart = hart_at_slot(0, 0);
-    let first = next(&mut hart, &mut bus);
-    assert!(rt;
-        first
-            == Stepped::Retired {
-                pc: SLOT,
-                word: wfi
-            }
-    );
-    bus.timer = true;
-    assert!(rt; next(&mut hart, &mut bus) == Stepped::Idle);
-    assert!(rt; write(&mut hart, 0x304, 0x80));
+    let mut hart = Hart::new(base);
+    assert!(rt; put_words(&mut bus.ram, base, &WAITING));
+    assert!(rt; retires(&mut hart, &mut bus, 9));
+    bus.lines = Lines {
+        software: true,
+        ..NONE
+    };
+    assert!(rt; hart.step(&mut bus) == Stepped::Idle);
+    bus.lines = Lines {
+        timer: true,
+        ..NONE
+    };
     bus.stopped = true;
-    assert!(rt; next(&mut hart, &mut bus) == Stepped::Idle);
+    assert!(rt; hart.step(&mut bus) == Stepped::Idle);
     bus.stopped = false;
-    assert!(rt; write(&mut hart, 0x341, 0x8000_0c02) && write(&mut hart, 0x300, 0x80));
-    let left = next(&mut hart, &mut bus);
-    assert!(rt;
-        left == Stepped::Retired {
-            pc: SLOT + 4,
-            word: mret
-        }
-    );
-    let taken = next(&mut hart, &mut bus);
+    assert!(rt; retires(&mut hart, &mut bus, 1));
+    assert_eq!(rt; hart.pc(), base + 0x20);
+    let taken = hart.step(&mut bus);
     assert!(rt;
         taken
             == Stepped::Trapped {
                 cause: 0x8000_0007,
-                pc: SLOT
+                pc: base + 0x20
             }
     );
-    assert!(rt; next(&mut hart, &mut bus) == Stepped::Trapped { cause: 1, pc: 0 });
-    assert!(rt; hart.steps == 6 && hart.retired == 2);
+    // cycle has the steps made, instret the instructions retired
+    assert!(rt; csr_of(&mut hart, &mut bus, 0xc00) == Some(13));
+    assert!(rt; csr_of(&mut hart, &mut bus, 0xc02) == Some(11));
+}
+
+/// Where mtvec was not set, a trap goes to 0, which is not RAM.
+#[test]
+fn a_fetch_outside_ram_traps(rt: HostRuntime) {
+    let Ok(ram) = Ram::new(rt.alloc(), 4096) else {
+        panic!(rt; "no memory");
+    };
+    let mut bus = bus_with(ram);
+    let mut hart = Hart::new(0x8000_0000);
+    let first = hart.step(&mut bus);
+    let second = hart.step(&mut bus);
+    assert!(rt;
+        first
+            == Stepped::Trapped {
+                cause: 2,
+                pc: 0x8000_0000
+            }
+    );
+    assert!(rt; second == Stepped::Trapped { cause: 1, pc: 0 });
 }
 
 /// What is pending with the lines software, timer and external, and whether they end a wait.
-fn pending(hart: &Hart, [software, timer, external]: [bool; 3]) -> (Option<u32>, bool) {
+fn pending(csrs: &CsrFile, [software, timer, external]: [bool; 3]) -> (Option<u32>, bool) {
     let lines = Lines {
         software,
         timer,
         external,
     };
-    (hart.csrs.pending(lines), hart.csrs.wakes(lines))
+    (csrs.pending(lines), csrs.wakes(lines))
 }
 
 #[test]
 fn interrupts_are_taken_in_order(rt: HostRuntime) {
-    let mut hart = Hart::new(SLOT);
-    assert!(rt; write(&mut hart, 0x304, 0x888));
+    let mut csrs = CsrFile::new();
+    assert!(rt; csrs.write(0x304, 0x888));
     for mie in [0, 8] {
-        assert!(rt; write(&mut hart, 0x300, mie));
+        assert!(rt; csrs.write(0x300, mie));
         for (lines, cause) in [
             ([true, true, true], Some(0x8000_000b)),
             ([true, true, false], Some(0x8000_0003)),
@@ -338,7 +406,7 @@ fn interrupts_are_taken_in_order(rt: HostRuntime) {
             ([false, false, false], None),
         ] {
             let taken = if mie == 8 { cause } else { None };
-            assert!(rt; pending(&hart, lines) == (taken, cause.is_some()));
+            assert!(rt; pending(&csrs, lines) == (taken, cause.is_some()));
         }
     }
 }

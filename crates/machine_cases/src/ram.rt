@@ -1,5 +1,5 @@
 //! What no clause says: that memory is there, and values from outside.
-use crate::{MemFault, Ram};
+use guest_ram::{MemFault, Ram};
 use tb_base::Width;
 
 #[test]

@@ -1,7 +1,7 @@
 //! A driver's accesses, with the values that the standard and the register table give.
 
-use crate::{Kind2, RegDone, Regs};
 use tb_base::Width;
+use virtio_regs::{Kind2, RegDone, Regs};
 
 /// The driver brings a block device up, as section 3.1.1 of the standard says. Then the device breaks, and is reset.
 #[test]

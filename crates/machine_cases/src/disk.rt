@@ -1,6 +1,6 @@
 //! Finish ticks that were worked out by hand.
 
-use crate::{DiskParams, DiskServer};
+use disk_model::{DiskParams, DiskServer};
 
 #[test]
 fn requests_are_served_one_after_the_other(rt: HostRuntime) {

@@ -1,5 +1,5 @@
 //! Words as the assembler of GNU binutils 2.40 writes them, one of each row of the table.
-use crate::{Program, encode};
+use guest_asm::{Program, encode};
 use rv_word::{Op, decode};
 
 const WORDS: [u32; 57] = [

@@ -1,5 +1,5 @@
 //! What no clause says: that memory is there, and values from outside.
-use crate::Pages;
+use byte_pages::Pages;
 
 #[test]
 fn numbers_lie_low_byte_first(rt: HostRuntime) {

@@ -1,8 +1,8 @@
 //! Accesses of a Uart.
-use crate::Uart;
 use dev_face::{DevConfig, Device, StoreDone};
 use std::test::Fail;
 use tb_base::Width;
+use uart_dev::Uart;
 
 #[test]
 fn a_byte_is_sent_and_all_else_ignored(rt: HostRuntime) -> Result<(), Fail> {

@@ -1,5 +1,5 @@
 //! Accesses and lines of a Clint.
-use crate::Clint;
+use clint_dev::Clint;
 use dev_face::{DevConfig, Device, StoreDone};
 use std::test::Fail;
 use tb_base::Width;

@@ -1,5 +1,5 @@
 //! An ELF file made by hand, its prefixes, and what single bytes change.
-use crate::{ElfFault, load_elf};
+use elf_image::{ElfFault, load_elf};
 use guest_ram::Ram;
 use tb_base::Width;
 
