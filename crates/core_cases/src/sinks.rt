@@ -1,7 +1,7 @@
 //! What the files and sinks answer, and what they leave.
-use crate::{Files, HostFiles, HostSink, MemFiles, MemSink, PutErr, ReadErr, Sink};
 use std::io;
 use std::test::Fail;
+use tb_io::{Files, HostFiles, HostSink, MemFiles, MemSink, PutErr, ReadErr, Sink};
 
 /// A writer that takes one byte a write, fails once it is full, and cannot be flushed when full.
 #[derive(Drop)]

@@ -1,11 +1,9 @@
 //! A node that never wakes, on one slot.
 
-mod sleeper;
-
-use crate::{Bench, TickFault};
+use crate::sleeper::Sleeper;
 use host_journal::{Head, JournalKeep};
 use lookahead_core::Core;
-use sleeper::Sleeper;
+use slot_sched::{Bench, TickFault};
 use std::cell::Cell;
 use std::rc::Rc;
 use std::test::Fail;

@@ -2,7 +2,7 @@
 ghost use Rattle.std.specs.Prelude.{◌≡◌, ◌<◌, length, IfOk};
 ghost use Rattle.host_journal.specs.Keepers.{head_of};
 
-use crate::{Head, JournalKeep, Keep, KeepErr, Quantum};
+use host_journal::{Head, JournalKeep, Keep, KeepErr, Quantum};
 use std::alloc::Global;
 use std::test::Fail;
 use tb_base::{ItemList, Name};
