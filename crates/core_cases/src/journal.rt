@@ -24,18 +24,22 @@ fn keeper(alloc: Global) -> Result<JournalKeep, Fail>
     Ok(JournalKeep::new(alloc, head)?)
 }
 
+/// The record of a jump in place.
+fn jump(tick: u64) -> Rec {
+    Rec {
+        tick,
+        what: What::Instr {
+            pc: 0x8000_0000,
+            word: 0x6f,
+        },
+    }
+}
+
 /// The records of a tick: two jumps in place.
 fn jumps(alloc: Global, tick: u64) -> Result<Log, Fail> {
     let mut recs = Log::new(alloc);
-    for _ in 0..2 {
-        recs.push(Rec {
-            tick,
-            what: What::Instr {
-                pc: 0x8000_0000,
-                word: 0x6f,
-            },
-        })?;
-    }
+    recs.push(jump(tick))?;
+    recs.push(jump(tick))?;
     Ok(recs)
 }
 
