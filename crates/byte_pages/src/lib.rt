@@ -6,6 +6,3 @@ mod pages;
 
 pub use no_page::NoPage;
 pub use pages::Pages;
-
-#[cfg(test)]
-mod tests;

@@ -4,6 +4,3 @@
 mod clint;
 
 pub use clint::Clint;
-
-#[cfg(test)]
-mod tests;

@@ -11,6 +11,3 @@ pub use config::DevConfig;
 pub use face::Device;
 pub use kind::Kind;
 pub use store_done::StoreDone;
-
-#[cfg(test)]
-mod tests;

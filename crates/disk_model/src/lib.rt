@@ -8,6 +8,3 @@ mod law;
 pub use disk_params::DiskParams;
 pub use disk_server::DiskServer;
 pub use law::finish_ticks_never_fall;
-
-#[cfg(test)]
-mod tests;

@@ -7,8 +7,6 @@ mod field;
 mod load;
 mod place;
 mod segment;
-#[cfg(test)]
-mod tests;
 
 pub use fault::ElfFault;
 pub use load::load_elf;

@@ -7,6 +7,3 @@ mod program;
 
 pub use encoder::encode;
 pub use program::Program;
-
-#[cfg(test)]
-mod tests;

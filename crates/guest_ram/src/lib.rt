@@ -6,6 +6,3 @@ mod ram;
 
 pub use fault::MemFault;
 pub use ram::{BASE, Ram};
-
-#[cfg(test)]
-mod tests;

@@ -12,6 +12,3 @@ pub use journal_keep::JournalKeep;
 pub use keep::{Keep, KeepErr};
 pub use lines::{put_end, put_head, put_host_tick, put_quantum, put_slot};
 pub use quantum::Quantum;
-
-#[cfg(test)]
-mod tests;

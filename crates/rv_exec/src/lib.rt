@@ -12,6 +12,3 @@ mod stepped;
 pub use bus::Bus;
 pub use hart::Hart;
 pub use stepped::Stepped;
-
-#[cfg(test)]
-mod tests;

@@ -12,6 +12,3 @@ pub use kind2::Kind2;
 pub use queue_set::QueueSet;
 pub use reg_done::RegDone;
 pub use regs::Regs;
-
-#[cfg(test)]
-mod tests;

@@ -1,0 +1,2 @@
+mod Alarm
+mod Still
