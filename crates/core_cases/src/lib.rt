@@ -9,6 +9,8 @@ mod journal;
 #[cfg(test)]
 mod line;
 #[cfg(test)]
+mod pipe;
+#[cfg(test)]
 mod sinks;
 #[cfg(test)]
 mod sleeper;

@@ -11,6 +11,3 @@ pub use law::pipe_waits;
 pub use offered::Offered;
 pub use pipe::Pipe;
 pub use pipe_params::PipeParams;
-
-#[cfg(test)]
-mod tests;

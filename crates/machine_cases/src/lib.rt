@@ -21,6 +21,8 @@ mod machine;
 #[cfg(test)]
 mod pages;
 #[cfg(test)]
+mod queue;
+#[cfg(test)]
 mod ram;
 #[cfg(test)]
 mod registers;

@@ -16,6 +16,3 @@ pub use chain::Chain;
 pub use law::{chains_are_paths, faults_come_first, loops_were_met, paths_end, writes_are_joined};
 pub use queue::SplitQueue;
 pub use took::Took;
-
-#[cfg(test)]
-mod tests;

@@ -1,7 +1,7 @@
 //! Chains and malformed queues, with the values that the standard gives.
 
-use crate::{SplitQueue, Took};
 use guest_ram::Ram;
+use split_queue::{SplitQueue, Took};
 use tb_base::{Why, Width};
 
 /// A queue of size 4 with one chain available: 16 readable bytes, then one that the device writes.

@@ -1,6 +1,6 @@
 //! Frames through pipes, with ticks that were worked out by hand.
 
-use crate::{Offered, Pipe, PipeParams};
+use link_pipe::{Offered, Pipe, PipeParams};
 use tb_base::{Frame, ItemList};
 
 /// A frame of 250 bytes passes in three ticks of 100 bytes.
