@@ -127,7 +127,7 @@ end 2
 run a.toml --host-ticks 1 --view journal|0|all
 version = 1
 factor = 1
-slot = [{ capacity = 5 }]
+slot = [{ capacity = 1001 }]
 guest = [
   { name = 'a', image = 'wait', format = 'flat', ram = 4096, rate = 5, slot = 0 },
 ]
@@ -138,7 +138,32 @@ host 1
 slot 0
 run 0 units 1 done 1
 0 0 instr 80000000 10500073
-run 0 units 4 done 5
+run 0 units 1000 done 1001
+end 1
+--
+==
+run a.toml --host-ticks 1 --view journal|0|all
+version = 1
+factor = 1
+slot = [{ capacity = 510 }]
+guest = [
+  { name = 'a', image = 'alarm', format = 'flat', ram = 4096, rate = 7, slot = 0 },
+]
+--
+exit 0 after 2 reads
+diecast 1 factor 1 slots 1 guests 1 host 1
+host 1
+slot 0
+run 0 units 7 done 1
+0 0 instr 80000000 020040b7
+0 0 instr 80000004 1f400113
+0 0 instr 80000008 0020a023
+0 0 instr 8000000c 0000a223
+0 0 instr 80000010 08000193
+0 0 instr 80000014 3041a073
+0 0 instr 80000018 10500073
+run 0 units 499 done 500
+run 0 units 4 done 500
 end 1
 --
 ==

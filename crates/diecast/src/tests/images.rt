@@ -23,6 +23,10 @@ const TIMER: &[u8; 68] =
     b"\xb7\x02\0\x80\x93\x82\x02\x04\x73\x90\x52\x30\x37\x43\0\x02\x93\x03\x30\0\x23\x22\x03\0\
 \x23\x20\x73\0\x13\x04\0\x08\x73\x10\x44\x30\x73\x60\x04\x30\x6f\0\0\0\0\0\0\0\0\0\0\0\0\0\0\0\0\0\0\0\0\0\0\0\x6f\0\0\0";
 
+/// Sets mtimecmp to 500, enables the timer's line alone, and waits.
+const ALARM: &[u8; 28] =
+    b"\xb7\x40\0\x02\x13\x01\x40\x1f\x23\xa0\x20\0\x23\xa2\0\0\x93\x01\0\x08\x73\xa0\x41\x30\x73\0\x50\x10";
+
 /// An ELF file with two program headers, the second of four bytes at 116 that are loaded to
 /// 0x8000_0000: the jump in place.
 const ELF: &[u8; 120] =
@@ -40,6 +44,7 @@ pub(crate) fn add_images(files: &mut MemFiles) -> Result<(), Fail> {
     files.add("off", OFF)?;
     files.add("sends", SENDS)?;
     files.add("timer", TIMER)?;
+    files.add("alarm", ALARM)?;
     Ok(())
 }
 
