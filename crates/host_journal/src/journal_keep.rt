@@ -47,7 +47,6 @@ impl JournalKeep {
         ensures err { OnErr result (has_failed self.new ≡ true) }
         ensures stopped { has_failed self.old ≡ true → O.taken out.new ≡ O.taken out.old }
         ensures cause { KeepCause (O.faults out.old) (O.faults out.new) result }
-        ensures no_memory { result ≡ Err KeepErr.NoMemory → O.faults out.new ≡ O.faults out.old }
     {
         self.line.clear();
         let made = put_head(&mut self.line, &self.head);
@@ -62,7 +61,6 @@ impl JournalKeep {
         ensures err { OnErr result (has_failed self.new ≡ true) }
         ensures stopped { has_failed self.old ≡ true → O.taken out.new ≡ O.taken out.old }
         ensures cause { KeepCause (O.faults out.old) (O.faults out.new) result }
-        ensures no_memory { result ≡ Err KeepErr.NoMemory → O.faults out.new ≡ O.faults out.old }
     {
         self.line.clear();
         let made = put_end(&mut self.line, self.head.host_ticks);
@@ -82,7 +80,6 @@ fn put_line<O: Sink>(
     ensures err { OnErr result (failed.new ≡ true) }
     ensures stopped { failed.old ≡ true → O.taken out.new ≡ O.taken out.old }
     ensures cause { KeepCause (O.faults out.old) (O.faults out.new) result }
-    ensures no_memory { result ≡ Err KeepErr.NoMemory → O.faults out.new ≡ O.faults out.old }
 {
     if *failed {
         return Err(KeepErr::NoMemory);
@@ -137,7 +134,6 @@ impl<O: Sink> Keep<O> for JournalKeep {
         ensures members { length (head_of self.new).names.items ≡ length (head_of self.old).names.items }
         ensures head { head_of self.new ≡ head_of self.old }
         ensures cause { KeepCause (O.faults out.old) (O.faults out.new) result }
-        ensures no_memory { result ≡ Err KeepErr.NoMemory → O.faults out.new ≡ O.faults out.old }
         ensures ok { OnOk result ((has_failed self.old ≡ false) × (has_failed self.new ≡ false)) }
         ensures err { OnErr result (has_failed self.new ≡ true) }
         ensures stopped { has_failed self.old ≡ true → O.taken out.new ≡ O.taken out.old }
@@ -152,7 +148,6 @@ impl<O: Sink> Keep<O> for JournalKeep {
         ensures members { length (head_of self.new).names.items ≡ length (head_of self.old).names.items }
         ensures head { head_of self.new ≡ head_of self.old }
         ensures cause { KeepCause (O.faults out.old) (O.faults out.new) result }
-        ensures no_memory { result ≡ Err KeepErr.NoMemory → O.faults out.new ≡ O.faults out.old }
         ensures ok { OnOk result ((has_failed self.old ≡ false) × (has_failed self.new ≡ false)) }
         ensures err { OnErr result (has_failed self.new ≡ true) }
         ensures stopped { has_failed self.old ≡ true → O.taken out.new ≡ O.taken out.old }

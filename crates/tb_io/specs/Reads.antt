@@ -11,11 +11,11 @@ Answers told limit (Ok v) = (length v.items ≤ limit) × IfSome told (λ b. v.i
 Answers told limit (Err TooLong) = IfSome told (λ b. limit < length b)
 Answers told limit (Err _) = Unit {0}
 
--- the count and the fault name after a read of this name
+-- the count and the fault name after a read of this name: only a read that failed changes them
 abbrev pub Faults : Result (Vec ℕ Global) ReadErr → List ℕ → ℕ × List ℕ → ℕ × List ℕ → Type 0
 Faults (Err Failed) name old new = (old.0 ≤ new.0) × Rose old.0 new.0 × (new.1 ≡ name)
-Faults (Err _) name old new = (old.0 ≤ new.0) × (new.1 ≡ old.1)
-Faults (Ok _) name old new = (old.0 ≤ new.0) × (new.1 ≡ old.1)
+Faults (Err _) name old new = (new.0 ≡ old.0) × (new.1 ≡ old.1)
+Faults (Ok _) name old new = (new.0 ≡ old.0) × (new.1 ≡ old.1)
 
 -- whether a read's answer tells of a fault
 abbrev pub is_fault : ReadErr → Bool

@@ -1,5 +1,5 @@
 -- The headline follows from how a command ends.
-use Rattle.std.proofs.Common.{◌≡◌, ℕ, ◌<◌, ◌≤◌, ◌⊎◌, List, length, inl, inr, refl, subst, arith}
+use Rattle.std.proofs.Common.{◌≡◌, ◌≢◌, ℕ, ◌<◌, ◌≤◌, ◌⊎◌, List, length, inl, inr, refl, subst, arith}
 use Rattle.std.specs.Fmt.{decimal}
 use Rattle.std.proofs.lemmas.Fmt.{decimal_injective}
 use Rattle.exp_file.specs.Lists.{without_room}
@@ -110,10 +110,11 @@ cut_short : (w : World) (s : Status) → Ends w s → (s ≡ Memory) ⊎ (s ≡ 
 cut_short w s ends (inl memory) = let P : Status → Type 0 = Ends w in subst P memory ends
 cut_short w s ends (inr failed) = let P : Status → Type 0 = Ends w in inr (subst P failed ends).1
 
-pub headline : (w : World) (s : Status) → Ends w s → Headline w s
-headline w s ends = record {
+pub headline : (w : World) (s : Status) → Ends w s → (s ≢ WriteFault → w.out_faults.1 ≡ w.out_faults.0) → Headline w s
+headline w s ends unfailed = record {
   accepted = λ t e asks calm. judged w s t e ends asks calm;
   runs = λ e may enough calm. done_undisturbed w s e ends may enough calm;
   printed = λ n e asks done. printed w n e asks (let P : Status → Type 0 = Ends w in subst P done ends);
   cut_short = cut_short w s ends;
+  unfailed = unfailed;
 }

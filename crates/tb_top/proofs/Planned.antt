@@ -1,5 +1,5 @@
 -- How a plan ends, in what a status says and where its file is told.
-use Rattle.std.proofs.Common.{◌≡◌, ℕ, ◌⊎◌, false, List, Option, inl, inr, sym, subst}
+use Rattle.std.proofs.Common.{◌≡◌, ◌≢◌, ◌∙◌, ℕ, ◌⊎◌, true, false, List, Option, inl, inr, sym, subst}
 use Rattle.tb_base.specs.declared.limits.TheConstants.{EXPERIMENT_FILE}
 use Rattle.tb_io.specs.Causes.{Rose}
 use Rattle.exp_file.specs.Lists.{without_room}
@@ -14,7 +14,7 @@ use Rattle.tb_top.specs.declared.status.Status.TheVariants.{Done, Overload as Ov
 use Rattle.tb_top.specs.declared.words.Task.{Task}
 use Rattle.tb_top.specs.declared.words.Task.TheVariants.{Run, Plan}
 use Rattle.tb_top.specs.Ends.{World, Ends, Asks, WellFormed, Placed, IsToRun, PutsTask, PutsTaskPart, PutsOver}
-use Rattle.tb_top.specs.Lines.{is_done}
+use Rattle.tb_top.specs.Lines.{is_made}
 use Rattle.tb_top.specs.Plans.{Plans}
 use Rattle.tb_top.specs.Reads.{IsRead, Says}
 use Rattle.tb_top.specs.Words.{IsCommand, IsPlanOf}
@@ -43,34 +43,42 @@ ends_plan w e name b (Build f) command read says ends = absurd ends
 ends_plan w e name b (TooLong f) command read says ends = absurd ends
 ends_plan w e name b (ReadFault f) command read says ends = absurd ends
 
--- what is said of every other status is said of want of memory too
+-- what is said of a status whose line is made is said of want of memory too
 over_memory : (w : World) (e : Experiment) (name b : List ℕ) (t : Task) → IsCommand w.words name t → IsRead (w.held name) EXPERIMENT_FILE b → Says b e → PutsOver w t e → Ends w Memory
 over_memory w e name b (Run n) command read says quiet = inl quiet
 over_memory w e name b Plan command read says puts = inr (name, (Plan, command, (b, read, (e, says, plan_part e (placed e) w.taken.0 w.taken.1 puts))))
 
-ends_memory : (w : World) (s : Status) → is_done s ≡ false → Ends w s → Ends w Memory
-ends_memory w Done not ends = absurd (cc not)
-ends_memory w (Over slot need have) not over =
+ends_memory : (w : World) (s : Status) → is_made s ≡ true → Ends w s → Ends w Memory
+ends_memory w Done made ends = absurd (cc made)
+ends_memory w (Over slot need have) made over =
     let k = said w _ over in
     over_memory w k.experiment k.name k.bytes k.task k.command k.read k.says k.holds.1
-ends_memory w WriteFault not (rose, part) = inr part
-ends_memory w Memory not ends = ends
-ends_memory w (Usage f) not (quiet, h) = inl quiet
-ends_memory w (Refused f) not (quiet, h) = inl quiet
-ends_memory w (Build (build.Image i f)) not (quiet, h) = inl quiet
-ends_memory w (Build (build.NoDevice kind wanted had)) not (quiet, h) = inl quiet
-ends_memory w (Build build.NoMemory) not ends = absurd ends
-ends_memory w (TooLong file.Experiment) not (quiet, h) = inl quiet
-ends_memory w (TooLong (file.Image i)) not (quiet, h) = inl quiet
-ends_memory w (TooLong (file.Disk i)) not ends = absurd ends
-ends_memory w (ReadFault file.Experiment) not (quiet, h) = inl quiet
-ends_memory w (ReadFault (file.Image i)) not (quiet, h) = inl quiet
-ends_memory w (ReadFault (file.Disk i)) not ends = absurd ends
+ends_memory w WriteFault made ends = absurd (cc made)
+ends_memory w Memory made ends = absurd (cc made)
+ends_memory w (Usage f) made (quiet, h) = inl quiet
+ends_memory w (Refused f) made (quiet, h) = inl quiet
+ends_memory w (Build (build.Image i f)) made (quiet, h) = inl quiet
+ends_memory w (Build (build.NoDevice kind wanted had)) made (quiet, h) = inl quiet
+ends_memory w (Build build.NoMemory) made ends = absurd ends
+ends_memory w (TooLong file.Experiment) made (quiet, h) = inl quiet
+ends_memory w (TooLong (file.Image i)) made (quiet, h) = inl quiet
+ends_memory w (TooLong (file.Disk i)) made ends = absurd ends
+ends_memory w (ReadFault file.Experiment) made (quiet, h) = inl quiet
+ends_memory w (ReadFault (file.Image i)) made (quiet, h) = inl quiet
+ends_memory w (ReadFault (file.Disk i)) made ends = absurd ends
 
 -- the status of the command, or want of memory for its line
-pub ends_told : (w : World) (s r : Status) → (s ≡ r) ⊎ ((s ≡ Memory) × (is_done r ≡ false)) → Ends w r → Ends w s
+pub ends_told : (w : World) (s r : Status) → (s ≡ r) ⊎ ((s ≡ Memory) × (is_made r ≡ true)) → Ends w r → Ends w s
 ends_told w s r (inl same) ends = subst (λ (z : Status). Ends w z) (sym same) ends
-ends_told w s r (inr (memory, not)) ends = subst (λ (z : Status). Ends w z) (sym memory) (ends_memory w r not ends)
+ends_told w s r (inr (memory, made)) ends = subst (λ (z : Status). Ends w z) (sym memory) (ends_memory w r made ends)
+
+-- a write fault is always told as such
+pub unfailed_told : (s r : Status) (Unfailed : Type 0) → (s ≡ r) ⊎ ((s ≡ Memory) × (is_made r ≡ true)) → (r ≢ WriteFault → Unfailed) → s ≢ WriteFault → Unfailed
+unfailed_told s r Unfailed (inl same) unfailed other = unfailed (λ fault. other (same ∙ fault))
+unfailed_told s r Unfailed (inr (memory, made)) unfailed other =
+    unfailed (λ fault.
+    let wrong : false ≡ true = subst (λ (z : Status). is_made z ≡ true) fault made in
+    cc wrong)
 
 -- what out has taken, of the experiment that the file says
 module _ (w : World) (e : Experiment) (asks : Asks w.words w.held Plan e) where

@@ -1,7 +1,7 @@
 -- The promise of the testbed. For every experiment file, the placement is accepted exactly where each slot's shares fit its capacity times the factor. After
 -- every host tick t of an accepted run, unless memory, a file or the output failed, each guest's printed trace is its trace in the undilated synchronous system
 -- up to some virtual tick, at least t / factor rounded down. The printed schedule is legal.
-use Rattle.std.specs.Prelude.{◌≡◌, ℕ, ◌/◌, ◌<◌, ◌≤◌, ◌⊎◌, List, length}
+use Rattle.std.specs.Prelude.{◌≡◌, ◌≢◌, ℕ, ◌/◌, ◌<◌, ◌≤◌, ◌⊎◌, List, length}
 use Rattle.tb_io.specs.Puts.{Takes}
 use Rattle.exp_file.specs.declared.experiment.Experiment.{Experiment}
 use Rattle.host_plan.specs.Fits.{Fits, IsFirstOverload}
@@ -62,9 +62,11 @@ pub record IsPrinted (w : World) (n : ℕ) (e : Experiment) : Type 0 where
   pub traces : (t : ℕ) → t ≤ n → (g : ℕ) → g < length e.guests.items → IsTraced e images t g (up_to_tick t journal)
 
 -- of the experiment e in the file that the words name: the placement is accepted exactly where it fits; an accepted run whose images load and whose devices
--- suffice is done; what it then printed; and what was printed where memory or the output failed, nothing or a first part of a legal journal or of the plan
+-- suffice is done; what it then printed; what was printed where memory or the output failed, nothing or a first part of a legal journal or of the plan; and
+-- only where a write fault is told may a put to the output have failed
 pub record Headline (w : World) (s : Status) : Type 0 where
   pub accepted : (task : Task) (e : Experiment) → Asks w.words w.held task e → IsUndisturbed s → IsJudged e s
   pub runs : (e : Experiment) → MayRun w.words w.held e → Suffices (length e.guests.items) w.stock.0 w.stock.1 → IsUndisturbed s → s ≡ Done
   pub printed : (n : ℕ) (e : Experiment) → Asks w.words w.held (Run n) e → s ≡ Done → IsPrinted w n e
   pub cut_short : (s ≡ Memory) ⊎ (s ≡ WriteFault) → Quiet w ⊎ IsPartPut w
+  pub unfailed : s ≢ WriteFault → w.out_faults.1 ≡ w.out_faults.0

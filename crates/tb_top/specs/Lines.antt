@@ -109,6 +109,13 @@ abbrev pub is_done : Status → Bool
 is_done Done = true
 is_done _ = false
 
+-- whether the line of a status is made, which takes memory: `Done` has none, and two are constants
+abbrev pub is_made : Status → Bool
+is_made Done = false
+is_made WriteFault = false
+is_made Memory = false
+is_made _ = true
+
 -- a sink took this line, and where its count rose maybe only a first part of it
 pub record SaysLine (line : List ℕ) (old new : Option (List ℕ)) (before now : ℕ) : Type 0 where
   pub part : TakesPart old new line

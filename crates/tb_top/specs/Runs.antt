@@ -1,5 +1,5 @@
 -- How the run of a bench ends, and what out has taken then.
-use Rattle.std.specs.Prelude.{◌≡◌, ℕ, ◌⊎◌, List, length, map, Option, Result, Ok, Err}
+use Rattle.std.specs.Prelude.{◌≡◌, ℕ, ◌⊎◌, List, length, map, Option, Result, Ok, Err, OnOk}
 use Rattle.tb_io.specs.Causes.{Rose}
 use Rattle.tb_io.specs.Puts.{Takes, TakesPart}
 use Rattle.exp_file.specs.declared.experiment.Experiment.{Experiment}
@@ -32,3 +32,8 @@ abbrev pub Runs : Experiment → List ℕ → List (List ℕ) → ℕ → Option
 Runs e slots images host_ticks old new before now (Ok _) = PutsAll e slots images host_ticks old new
 Runs e slots images host_ticks old new before now (Err NoMemory) = (new ≡ old) ⊎ PutsPart e slots images host_ticks old new
 Runs e slots images host_ticks old new before now (Err WriteFailed) = Rose before now × PutsPart e slots images host_ticks old new
+
+-- the count of out stands as it was where a run came to its end, and where it found no memory
+pub record RunCause (before now : ℕ) (result : Result (Unit {0}) RunErr) : Type 0 where
+  pub ok : OnOk result (now ≡ before)
+  pub no_memory : result ≡ Err NoMemory → now ≡ before

@@ -1,7 +1,7 @@
 //! The line of a status.
-ghost use Rattle.std.specs.Prelude.{◌≡◌, ◌++◌, ◌⊎◌, ℕ, map, take, IfOk, OnOk, false};
+ghost use Rattle.std.specs.Prelude.{◌≡◌, ◌++◌, ◌⊎◌, ℕ, map, take, IfOk, OnOk, true};
 ghost use Rattle.std.specs.Fmt.{decimal};
-ghost use Rattle.tb_top.specs.Lines.{status_line, is_done, why_word, section_word, usage_word, file_words, fault_words, build_words, kind_word, image_words, elf_word, header_words, shown_key, shown_byte, SaysLine, Told};
+ghost use Rattle.tb_top.specs.Lines.{status_line, is_made, why_word, section_word, usage_word, file_words, fault_words, build_words, kind_word, image_words, elf_word, header_words, shown_key, shown_byte, SaysLine, Told};
 
 use crate::status::{FileId, Status};
 use crate::words::WordFault;
@@ -14,34 +14,39 @@ use tb_base::{Bytes, NoMemory};
 use tb_io::Sink;
 use tb_text::put_dec;
 
+const WRITE_FAULT: &[u8; 21] = b"diecast: write fault\n";
 const OUT_OF_MEMORY: &[u8; 23] = b"diecast: out of memory\n";
 
 /// Tells a status, and gives the one that the command ends with: where there is no memory for the
 /// line, that is `Memory`. It is settled before anything is put, whatever comes of the put.
+///
+/// The line of a failed put takes no memory, so that such a status is always told.
 #[tactic(auto, unfolding(crate::specs::Lines::status_line))]
 pub(crate) fn tell<M: Sink>(alloc: Global, status: Status, msg: &mut M) -> Status
-    ensures status { (result ≡ status) ⊎ ((result ≡ Status.Memory) × (is_done status ≡ false)) }
+    ensures status { (result ≡ status) ⊎ ((result ≡ Status.Memory) × (is_made status ≡ true)) }
     ensures told { Told result (M.taken msg.old) (M.taken msg.new) (M.faults msg.old) (M.faults msg.new) }
 {
-    if is_done(&status) {
-        return status;
-    }
-    match line_of(alloc, &status) {
-        Ok(line) => {
-            say(msg, line.as_slice());
-            status
+    match status {
+        Status::Done => Status::Done,
+        Status::WriteFault => {
+            say(msg, WRITE_FAULT);
+            Status::WriteFault
         }
-        Err(_) => {
+        Status::Memory => {
             say(msg, OUT_OF_MEMORY);
             Status::Memory
         }
+        status => match line_of(alloc, &status) {
+            Ok(line) => {
+                say(msg, line.as_slice());
+                status
+            }
+            Err(_) => {
+                say(msg, OUT_OF_MEMORY);
+                Status::Memory
+            }
+        },
     }
-}
-
-fn is_done(status: &Status) -> bool
-    ensures { result ≡ is_done status.now }
-{
-    matches!(status, Status::Done)
 }
 
 /// Puts a line, whatever comes of it.
@@ -54,14 +59,15 @@ fn say<M: Sink>(msg: &mut M, line: &[u8])
     }
 }
 
-/// The line of a status, which for `Done` is empty.
+/// The line of a status, where it is made.
 #[tactic(auto, unfolding(crate::specs::Lines::status_line))]
 fn line_of(alloc: Global, status: &Status) -> Result<Bytes, NoMemory>
+    requires { is_made status.now ≡ true }
     ensures { IfOk result (λ line. line ≡ status_line status.now) }
 {
     let mut line = Bytes::new(alloc);
     match status {
-        Status::Done => return Ok(line),
+        Status::Done | Status::WriteFault | Status::Memory => unreachable!(),
         Status::Overload { slot, need, have } => {
             add(&mut line, b"diecast: overload: slot ", u64::from(*slot))?;
             add(&mut line, b" needs ", *need)?;
@@ -87,8 +93,6 @@ fn line_of(alloc: Global, status: &Status) -> Result<Bytes, NoMemory>
             line.push_slice(b"diecast: read fault: ")?;
             add_file(&mut line, *file)?;
         }
-        Status::WriteFault => line.push_slice(b"diecast: write fault")?,
-        Status::Memory => line.push_slice(b"diecast: out of memory")?,
     }
     line.push_slice(b"\n")?;
     Ok(line)

@@ -6,7 +6,7 @@ ghost use Rattle.host_journal.specs.Keepers.{head_of, has_failed};
 ghost use Rattle.slot_sched.specs.BenchWords.{BenchStands, IsAtTick, plan_of, ticks_made, bench_failed, members_of};
 ghost use Rattle.slot_sched.specs.Legal.{start};
 ghost use Rattle.bench_build.specs.Setups.{setup, plan};
-ghost use Rattle.tb_top.specs.Runs.{IsHead, Runs};
+ghost use Rattle.tb_top.specs.Runs.{IsHead, Runs, RunCause};
 
 use dev_face::Device;
 use exp_file::{Experiment, GuestSpec};
@@ -26,7 +26,8 @@ pub(crate) enum RunErr {
 }
 
 fn of_keeper(e: KeepErr) -> RunErr
-    ensures { result ≡ RunErr.WriteFailed → e ≡ KeepErr.Failed }
+    ensures failed { result ≡ RunErr.WriteFailed → e ≡ KeepErr.Failed }
+    ensures no_memory { result ≡ RunErr.NoMemory → e ≡ KeepErr.NoMemory }
 {
     match e {
         KeepErr::NoMemory => RunErr::NoMemory,
@@ -35,7 +36,8 @@ fn of_keeper(e: KeepErr) -> RunErr
 }
 
 fn of_tick(e: TickFault) -> RunErr
-    ensures { result ≡ RunErr.WriteFailed → e ≡ TickFault.KeepFailed }
+    ensures failed { result ≡ RunErr.WriteFailed → e ≡ TickFault.KeepFailed }
+    ensures no_memory { result ≡ RunErr.NoMemory → e ≡ TickFault.NoMemory }
 {
     match e {
         TickFault::NoMemory => RunErr::NoMemory,
@@ -81,10 +83,11 @@ fn put_run<O: Sink, D: Device>(
     requires few { host_ticks ≤ 1000000 }
     requires members { members_of bench ≤ length (head_of keep.old).names.items }
     requires whole { has_failed keep.old ≡ false }
-    ensures { (e : Experiment) (slots : List ℕ) (images : List (List ℕ)) →
+    ensures runs { (e : Experiment) (slots : List ℕ) (images : List (List ℕ)) →
         BenchStands (setup e images) bench host_ticks → IsAtTick (setup e images) bench host_ticks start → plan_of bench host_ticks ≡ plan e slots host_ticks →
         IsHead e host_ticks (head_of keep.old) →
         Runs e slots images host_ticks (O.taken out.old) (O.taken out.new) (O.faults out.old) (O.faults out.new) result }
+    ensures cause { RunCause (O.faults out.old) (O.faults out.new) result }
 {
     let mut bench = bench;
     match keep.start(out) {
@@ -114,10 +117,11 @@ pub(crate) fn run<O: Sink, D: Device>(
     requires fresh { ticks_made bench ≡ 0 }
     requires few { host_ticks ≤ 1000000 }
     requires members { members_of bench ≡ length e.now.guests.items }
-    ensures { (slots : List ℕ) (images : List (List ℕ)) →
+    ensures runs { (slots : List ℕ) (images : List (List ℕ)) →
         BenchStands (setup e.now images) bench host_ticks → IsAtTick (setup e.now images) bench host_ticks start →
         plan_of bench host_ticks ≡ plan e.now slots host_ticks →
         Runs e.now slots images host_ticks (O.taken out.old) (O.taken out.new) (O.faults out.old) (O.faults out.new) result }
+    ensures cause { RunCause (O.faults out.old) (O.faults out.new) result }
 {
     let head = match head_for(alloc, e, host_ticks) {
         Ok(head) => head,

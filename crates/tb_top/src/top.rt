@@ -1,5 +1,5 @@
 //! The top call.
-ghost use Rattle.std.specs.Prelude.{◌≡◌, ◌⊎◌, ◌≤◌, true, ℕ, List, map, string_bytes, length, Some, All};
+ghost use Rattle.std.specs.Prelude.{◌≡◌, ◌≢◌, ◌⊎◌, ◌≤◌, true, ℕ, List, map, string_bytes, length, Some, All};
 ghost use Rattle.tb_io.specs.Causes.{Rose};
 ghost use Rattle.dev_face.specs.States.{IsBlankFor};
 ghost use Rattle.dev_face.specs.declared.config.DevConfig.TheVariants as config;
@@ -67,6 +67,9 @@ pub fn diecast<F: Files, O: Sink, M: Sink>(
     ensures planned { (e : Experiment) → Asks (map string_bytes words.now) (F.held files.old) Task.Plan e → ¬ Rose (F.faults files.old) (F.faults files.new)
         → Plans e (placed e) (O.taken out.old) (O.taken out.new) (O.faults out.old) (O.faults out.new) result }
 
+    // A put to `out` that failed is told as a write fault, and as nothing else.
+    ensures unfailed { result ≢ Status.WriteFault → O.faults out.new ≡ O.faults out.old }
+
     // What `msg` has taken: the line of the very status that is answered, or where `msg` failed a
     // first part of it. So no fault of `msg` makes the status another one.
     ensures told { Told result (M.taken msg.old) (M.taken msg.new) (M.faults msg.old) (M.faults msg.new) }
@@ -88,6 +91,7 @@ fn with_devices<F: Files, O: Sink, M: Sink, D: Device>(
     requires uarts { All (IsBlankFor config.Uart) (map D.state uarts.items) }
     ensures ends { Ends (world (map string_bytes words.now) (F.held files.old) (F.faults files.old) (F.faults files.new) (F.fault_name files.new)
         (O.taken out.old) (O.taken out.new) (O.faults out.old) (O.faults out.new) (length clints.items) (length uarts.items)) result }
+    ensures unfailed { result ≢ Status.WriteFault → O.faults out.new ≡ O.faults out.old }
     ensures told { Told result (M.taken msg.old) (M.taken msg.new) (M.faults msg.old) (M.faults msg.new) }
 {
     let status = work(alloc, words, files, out, clints, uarts);
@@ -105,8 +109,9 @@ fn work<F: Files, O: Sink, D: Device>(
 ) -> Status
     requires clints { All (IsBlankFor config.Clint) (map D.state clints.items) }
     requires uarts { All (IsBlankFor config.Uart) (map D.state uarts.items) }
-    ensures { Ends (world (map string_bytes words.now) (F.held files.old) (F.faults files.old) (F.faults files.new) (F.fault_name files.new)
+    ensures ends { Ends (world (map string_bytes words.now) (F.held files.old) (F.faults files.old) (F.faults files.new) (F.fault_name files.new)
         (O.taken out.old) (O.taken out.new) (O.faults out.old) (O.faults out.new) (length clints.items) (length uarts.items)) result }
+    ensures unfailed { result ≢ Status.WriteFault → O.faults out.new ≡ O.faults out.old }
 {
     match read_words(words) {
         Ok(command) => run_command(alloc, command, files, out, clints, uarts),
@@ -126,9 +131,10 @@ fn run_command<F: Files, O: Sink, D: Device>(
     requires clints { All (IsBlankFor config.Clint) (map D.state clints.items) }
     requires uarts { All (IsBlankFor config.Uart) (map D.state uarts.items) }
     requires limit { IsWithinLimit command.task }
-    ensures { (words : List (List ℕ)) → IsCommand words command.entry.file.now command.entry.task →
+    ensures ends { (words : List (List ℕ)) → IsCommand words command.entry.file.now command.entry.task →
         Ends (world words (F.held files.old) (F.faults files.old) (F.faults files.new) (F.fault_name files.new)
         (O.taken out.old) (O.taken out.new) (O.faults out.old) (O.faults out.new) (length clints.items) (length uarts.items)) result }
+    ensures unfailed { result ≢ Status.WriteFault → O.faults out.new ≡ O.faults out.old }
 {
     let bytes = match fetch(alloc, files, command.file, EXPERIMENT_FILE) {
         Ok(bytes) => bytes,
@@ -156,9 +162,10 @@ fn do_task<F: Files, O: Sink, D: Device>(
     requires well_formed { IsWellFormed e.now }
     requires built { is_built e.now ≡ true }
     requires few { IsWithinLimit task }
-    ensures { (words : List (List ℕ)) (name b : List ℕ) (before : ℕ) → IsCommand words name task → IsRead (F.held files.old name) EXPERIMENT_FILE b
+    ensures ends { (words : List (List ℕ)) (name b : List ℕ) (before : ℕ) → IsCommand words name task → IsRead (F.held files.old name) EXPERIMENT_FILE b
         → Says b e.now → before ≤ F.faults files.old → Ends (world words (F.held files.old) before (F.faults files.new) (F.fault_name files.new)
         (O.taken out.old) (O.taken out.new) (O.faults out.old) (O.faults out.new) (length clints.items) (length uarts.items)) result }
+    ensures unfailed { result ≢ Status.WriteFault → O.faults out.new ≡ O.faults out.old }
 {
     let placement = match place(alloc, e) {
         Ok(placement) => placement,
@@ -176,7 +183,8 @@ fn do_task<F: Files, O: Sink, D: Device>(
 fn plan_placed<O: Sink>(alloc: Global, e: &Experiment, placement: &Placement, out: &mut O) -> Status
     requires well_formed { IsWellFormed e.now }
     requires placement { IsPlacement e.now placement.now.slots.items }
-    ensures { Plans e.now placement.now.slots.items (O.taken out.old) (O.taken out.new) (O.faults out.old) (O.faults out.new) result }
+    ensures plans { Plans e.now placement.now.slots.items (O.taken out.old) (O.taken out.new) (O.faults out.old) (O.faults out.new) result }
+    ensures unfailed { result ≢ Status.WriteFault → O.faults out.new ≡ O.faults out.old }
 {
     match put_plan(alloc, e, placement, out) {
         Ok(()) => fit_status(check(e, placement)),
@@ -217,9 +225,10 @@ fn run_checked<F: Files, O: Sink, D: Device>(
     requires few { host_ticks ≤ 1000000 }
     requires placed { placement.now.slots.items ≡ placed e.now }
     requires placement { IsPlacement e.now placement.now.slots.items }
-    ensures { (words : List (List ℕ)) (name b : List ℕ) (before : ℕ) → IsRunOf words name host_ticks → IsRead (F.held files.old name) EXPERIMENT_FILE b
+    ensures ends { (words : List (List ℕ)) (name b : List ℕ) (before : ℕ) → IsRunOf words name host_ticks → IsRead (F.held files.old name) EXPERIMENT_FILE b
         → Says b e.now → before ≤ F.faults files.old → Ends (world words (F.held files.old) before (F.faults files.new) (F.fault_name files.new)
         (O.taken out.old) (O.taken out.new) (O.faults out.old) (O.faults out.new) (length clints.items) (length uarts.items)) result }
+    ensures unfailed { result ≢ Status.WriteFault → O.faults out.new ≡ O.faults out.old }
 {
     match check(e, placement) {
         Ok(()) => run_placed(alloc, e, placement, host_ticks, files, out, clints, uarts),
@@ -246,9 +255,10 @@ fn run_placed<F: Files, O: Sink, D: Device>(
     requires placed { placement.now.slots.items ≡ placed e.now }
     requires placement { IsPlacement e.now placement.now.slots.items }
     requires fits { Fits e.now placement.now.slots.items }
-    ensures { (words : List (List ℕ)) (name b : List ℕ) (before : ℕ) → IsRunOf words name host_ticks → IsRead (F.held files.old name) EXPERIMENT_FILE b
+    ensures ends { (words : List (List ℕ)) (name b : List ℕ) (before : ℕ) → IsRunOf words name host_ticks → IsRead (F.held files.old name) EXPERIMENT_FILE b
         → Says b e.now → before ≤ F.faults files.old → Ends (world words (F.held files.old) before (F.faults files.new) (F.fault_name files.new)
         (O.taken out.old) (O.taken out.new) (O.faults out.old) (O.faults out.new) (length clints.items) (length uarts.items)) result }
+    ensures unfailed { result ≢ Status.WriteFault → O.faults out.new ≡ O.faults out.old }
 {
     let mut builder = match Builder::new(alloc, e, placement) {
         Ok(builder) => builder,

@@ -1,4 +1,4 @@
-use Rattle.std.proofs.Common.{rules, arith}
+use Rattle.std.proofs.Common.{rules, arith, ◌∙◌}
 use Rattle.trace_rec.specs.Lines.{rec_line}
 use Rattle.host_journal.proofs.StandingLemmas.{recs_cut, recs_more}
 use Rattle.host_journal.proofs.journal_keep.put_recs.Goals as goal
@@ -17,6 +17,6 @@ loop-rec-preserved g c = record {
       (c.in_ok-put_line.ensures.adds (rec_line c.args.guest c.rec-item.result) (search rules));
   going = search rules;
   stopped = λ e. absurd (cc (c.in_ok-put_line.ensures.ok.0, c.loop-rec.invariant.stays e));
-  later = omega (arith, c.in_ok-put_line.ensures.cause.later);
+  unfailed = c.in_ok-put_line.ensures.cause.ok ∙ c.loop-rec.invariant.unfailed;
   stays = λ e. absurd (cc (c.in_ok-put_line.ensures.ok.0, c.loop-rec.invariant.stays e));
 }

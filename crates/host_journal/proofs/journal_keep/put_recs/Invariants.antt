@@ -1,4 +1,4 @@
-use Rattle.std.proofs.Common.{◌≡◌, ◌≤◌, true, false, take}
+use Rattle.std.proofs.Common.{◌≡◌, true, false, take}
 use Rattle.host_journal.specs.Standing.{Adds}
 use Rattle.host_journal.specs.Texts.{rec_lines}
 use Rattle.host_journal.proofs.journal_keep.put_recs.Given as goal
@@ -8,6 +8,6 @@ invariant-loop-rec g l = record {
   adds : Adds l.initial.failed (g.O.Sink.taken l.initial.out) l.failed (g.O.Sink.taken l.out) (rec_lines l.guest (take l.rec-index l.recs));
   going : l.initial.failed ≡ false → l.failed ≡ false;
   stopped : l.initial.failed ≡ true → g.O.Sink.taken l.out ≡ g.O.Sink.taken l.initial.out;
-  later : g.O.Sink.faults l.initial.out ≤ g.O.Sink.faults l.out;
+  unfailed : g.O.Sink.faults l.out ≡ g.O.Sink.faults l.initial.out;
   stays : l.initial.failed ≡ true → l.failed ≡ true;
 }

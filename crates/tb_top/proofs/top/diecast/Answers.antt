@@ -11,7 +11,7 @@ returns-clause-headline g c =
     headline
     (world (map string_bytes c.args.words.now) (g.F.Files.held c.args.files.now) (g.F.Files.faults c.args.files.now) (g.F.Files.faults c.with_devices.new.files) (g.F.Files.fault_name c.with_devices.new.files)
     (g.O.Sink.taken c.args.out.now) (g.O.Sink.taken c.with_devices.new.out) (g.O.Sink.faults c.args.out.now) (g.O.Sink.faults c.with_devices.new.out) (length c.args.stock.clints.items) (length c.args.stock.uarts.items))
-    c.with_devices.result c.with_devices.ensures.ends
+    c.with_devices.result c.with_devices.ensures.ends c.with_devices.ensures.unfailed
 
 pub returns-clause-complete : goal.returns-clause-complete
 returns-clause-complete g c = λ e may enough files out.
