@@ -84,7 +84,8 @@ fn end_of(
     named: Option<u32>,
     nic: u32,
 ) -> Result<u32, ExpErr>
-    ensures given { Gives result (end_of (place row.now.section row.now.index row.now.table.now) around.now.guests.now around.now.done.now around.now.other key.now nic_key.now named nic) }
+    ensures given { Gives result (end_of (place row.now.section row.now.index row.now.table.now) around.now.guests.now
+        around.now.done.now around.now.other key.now nic_key.now named nic) }
     ensures same { IfOk result (λ g. named ≡ Some g) }
     ensures nic { IfOk result (λ g. nic < nics_of around.now.guests.now g) }
     ensures unused { IfOk result (λ g. is_used around.now.done.now g nic ≡ false) }

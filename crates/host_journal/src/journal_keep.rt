@@ -55,7 +55,8 @@ impl JournalKeep {
 
     /// Puts the end line. It is called at most once, after every other call.
     pub fn finish<O: Sink>(&mut self, out: &mut O) -> Result<(), KeepErr>
-        ensures stands { (before : Option (List ℕ)) (es : List Entry) → StandsFor self.old before (O.taken out.old) es → StandsFor self.new before (O.taken out.new) (es ++ End ∷ []) }
+        ensures stands { (before : Option (List ℕ)) (es : List Entry) → StandsFor self.old before (O.taken out.old) es
+            → StandsFor self.new before (O.taken out.new) (es ++ End ∷ []) }
         ensures head { head_of self.new ≡ head_of self.old }
         ensures ok { OnOk result ((has_failed self.old ≡ false) × (has_failed self.new ≡ false)) }
         ensures err { OnErr result (has_failed self.new ≡ true) }
@@ -130,7 +131,8 @@ impl<O: Sink> Keep<O> for JournalKeep {
     ghost head = { head_of };
 
     fn host(&mut self, out: &mut O, t: u64) -> Result<(), KeepErr>
-        ensures adds { (before : Option (List ℕ)) (es : List Entry) → StandsFor self.old before (O.taken out.old) es → StandsFor self.new before (O.taken out.new) (es ++ Host t ∷ []) }
+        ensures adds { (before : Option (List ℕ)) (es : List Entry) → StandsFor self.old before (O.taken out.old) es
+            → StandsFor self.new before (O.taken out.new) (es ++ Host t ∷ []) }
         ensures members { length (head_of self.new).names.items ≡ length (head_of self.old).names.items }
         ensures head { head_of self.new ≡ head_of self.old }
         ensures cause { KeepCause (O.faults out.old) (O.faults out.new) result }
@@ -144,7 +146,8 @@ impl<O: Sink> Keep<O> for JournalKeep {
     }
 
     fn slot(&mut self, out: &mut O, s: u32) -> Result<(), KeepErr>
-        ensures adds { (before : Option (List ℕ)) (es : List Entry) → StandsFor self.old before (O.taken out.old) es → StandsFor self.new before (O.taken out.new) (es ++ Slot s ∷ []) }
+        ensures adds { (before : Option (List ℕ)) (es : List Entry) → StandsFor self.old before (O.taken out.old) es
+            → StandsFor self.new before (O.taken out.new) (es ++ Slot s ∷ []) }
         ensures members { length (head_of self.new).names.items ≡ length (head_of self.old).names.items }
         ensures head { head_of self.new ≡ head_of self.old }
         ensures cause { KeepCause (O.faults out.old) (O.faults out.new) result }
@@ -159,7 +162,8 @@ impl<O: Sink> Keep<O> for JournalKeep {
 
     fn quantum(&mut self, out: &mut O, q: &Quantum, recs: &Log) -> Result<(), KeepErr>
         requires { q.now.guest < length (head_of self.old).names.items }
-        ensures adds { (before : Option (List ℕ)) (es : List Entry) → StandsFor self.old before (O.taken out.old) es → StandsFor self.new before (O.taken out.new) (es ++ Ran q.now recs.now.items ∷ []) }
+        ensures adds { (before : Option (List ℕ)) (es : List Entry) → StandsFor self.old before (O.taken out.old) es
+            → StandsFor self.new before (O.taken out.new) (es ++ Ran q.now recs.now.items ∷ []) }
         ensures members { length (head_of self.new).names.items ≡ length (head_of self.old).names.items }
         ensures head { head_of self.new ≡ head_of self.old }
         ensures cause { KeepCause (O.faults out.old) (O.faults out.new) result }

@@ -35,7 +35,8 @@ pub trait Bus {
     fn store(&mut self, addr: u32, width: Width, value: u32) -> Result<(), MemFault>
         requires { ready self.old }
         ensures ready { ready self.new }
-        ensures stored { MatchResult result (λ _. bus.stored (bus_state self.old) addr width value ≡ Ok (bus_state self.new)) (λ e. bus.stored (bus_state self.old) addr width value ≡ Err e) }
+        ensures stored { MatchResult result (λ _. bus.stored (bus_state self.old) addr width value ≡ Ok (bus_state self.new))
+            (λ e. bus.stored (bus_state self.old) addr width value ≡ Err e) }
         ensures refused { MatchResult result (λ _. Unit {0}) (λ _. bus_state self.new ≡ bus_state self.old) };
 
     /// The interrupt lines.

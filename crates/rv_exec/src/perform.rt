@@ -106,7 +106,8 @@ impl Hart {
         value: u32,
     ) -> Result<(), Exception>
         requires ready { B.ready bus.old }
-        ensures outcome { (outcome_of result self.new, B.bus_state bus.new) ≡ store_done self.old (B.bus_state bus.old) addr (B.bus.stored (B.bus_state bus.old) addr width value) }
+        ensures outcome { (outcome_of result self.new, B.bus_state bus.new)
+            ≡ store_done self.old (B.bus_state bus.old) addr (B.bus.stored (B.bus_state bus.old) addr width value) }
         ensures kept { OnErr result (self.new ≡ self.old) }
         ensures ready { B.ready bus.new }
     {
