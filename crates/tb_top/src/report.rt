@@ -15,6 +15,7 @@ use tb_io::Sink;
 use tb_text::put_dec;
 
 const WRITE_FAULT: &[u8; 21] = b"diecast: write fault\n";
+
 const OUT_OF_MEMORY: &[u8; 23] = b"diecast: out of memory\n";
 
 /// Tells a status, and gives the one that the command ends with: where there is no memory for the
