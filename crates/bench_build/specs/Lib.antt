@@ -1,3 +1,5 @@
+-- Claims: Images and Setups, which the headline rests on; Building and Stocks for what a builder has taken and what it lacks.
+-- What proofs keep: Answers, Openings and Shapes.
 pub mod Answers
 pub mod Building
 pub mod Images

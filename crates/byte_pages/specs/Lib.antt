@@ -1,1 +1,2 @@
+-- Claims: all of it.
 pub mod LittleEndian

@@ -2,7 +2,7 @@
 use Rattle.std.proofs.Common.{◌≡◌, ◌==◌, ℕ, suc, ◌<◌, ◌≤◌, ◌+◌, ◌-◌, ◌&&◌, ◌||◌, not, nat_lt, Bool, true, false, List, length, Ok, Err, Result, if◌then◌else◌, inl, inr, refl, sym, ap, ◌∙◌, arith, subst}
 use Rattle.std.proofs.lemmas.Bool.{cases_lt, false≢true}
 use Rattle.std.proofs.lemmas.Bool.Decides.{nat_tests}
-use Rattle.guest_ram.specs.declared.ram.TheConstants.{BASE}
+use Rattle.guest_ram.specs.Bytes.{ram_base}
 use Rattle.elf_image.specs.declared.fault.ElfFault.{ElfFault}
 use Rattle.elf_image.specs.declared.segment.Segment.{Segment}
 use Rattle.elf_image.specs.Elf.{◌>>=◌, segments, segment_check, check_at, in_ram, put_segment, put_segments, IsPlaceable}
@@ -75,7 +75,7 @@ at_least m n h = grind (arith, nat_tests)
 some_size : (n : ℕ) → 0 < n → (n == 0) ≡ false
 some_size n h = grind (arith, nat_tests)
 
-in_range : (size addr len : ℕ) → in_ram size addr len ≡ true → (BASE ≤ addr) × (addr + len ≤ BASE + size)
+in_range : (size addr len : ℕ) → in_ram size addr len ≡ true → (ram_base ≤ addr) × (addr + len ≤ ram_base + size)
 in_range size addr len h = (grind (arith, nat_tests), grind (arith, nat_tests))
 
 pub placeable : (b ram : List ℕ) (n : ℕ) (s : Segment) → check_at b (length ram) n s ≡ Ok tt → IsPlaceable (length b) ram s

@@ -2,11 +2,10 @@
 use Rattle.std.proofs.Common.{◌≡◌, ℕ, ◌≤◌, ◌+◌, ◌-◌, List, ◌++◌, length, take, drop, slice_range, replicate, ◌==◌, ◌<◌, zero, suc, Bool, true, false, if◌then◌else◌, refl, sym, ap, ◌∙◌, arith, append_assoc, length-append}
 use Rattle.std.proofs.lemmas.List.{take_at, length-take-le, length-drop, drop-drop, replicate-append-replicate, length-replicate, take-append-drop, append-nil}
 use Rattle.std.proofs.Math.Seq.{drop-append-add}
-use Rattle.guest_ram.specs.Bytes.{ram_after, IsInRam}
+use Rattle.guest_ram.specs.Bytes.{ram_base, ram_after, IsInRam}
 use Rattle.std.proofs.lemmas.Bool.Decides.{nat_tests}
 use Rattle.elf_image.specs.declared.segment.Segment.{Segment}
 use Rattle.elf_image.specs.Elf.{IsPlaceable, put_at, segment_bytes}
-use Rattle.guest_ram.specs.declared.ram.TheConstants.{BASE}
 
 -- the bytes after these stand from a place on
 abbrev with_bytes : List ℕ → ℕ → List ℕ → List ℕ
@@ -33,7 +32,7 @@ pub ram_writes : (r xs ys : List ℕ) (addr next : ℕ) → IsInRam r addr (leng
 ram_writes r xs ys addr next within e =
     let low = within.0 in
     let high = within.1 in
-    two_writes r xs ys (addr - BASE) (next - BASE) (omega (arith, low, e)) (omega (arith, low, high))
+    two_writes r xs ys (addr - ram_base) (next - ram_base) (omega (arith, low, e)) (omega (arith, low, high))
 
 -- zeros behind zeros
 pub more_zeros : (r old new part : List ℕ) (addr next count done more : ℕ) → IsInRam r addr count → done + more ≤ count → next ≡ addr + done → part ≡ replicate more 0 → old ≡ ram_after r addr (replicate done 0)
@@ -50,8 +49,8 @@ more_zeros r old new part addr next count done more within fits e zeros before a
 -- no zeros
 pub no_zeros : (r : List ℕ) (addr : ℕ) → ram_after r addr (replicate 0 0) ≡ r
 no_zeros r addr =
-    let e : addr - BASE + 0 ≡ addr - BASE = omega arith in
-    ap (λ z. z ++ drop (addr - BASE + 0) r) (append-nil (take (addr - BASE) r)) ∙ ap (λ z. take (addr - BASE) r ++ drop z r) e ∙ take-append-drop (addr - BASE) r
+    let e : addr - ram_base + 0 ≡ addr - ram_base = omega arith in
+    ap (λ z. z ++ drop (addr - ram_base + 0) r) (append-nil (take (addr - ram_base) r)) ∙ ap (λ z. take (addr - ram_base) r ++ drop z r) e ∙ take-append-drop (addr - ram_base) r
 
 zero_is : (n : ℕ) → (n == 0) ≡ true → n ≡ 0
 zero_is n h = grind (arith, nat_tests)

@@ -2,8 +2,7 @@
 use Rattle.std.specs.Prelude.{◌==◌, ℕ, zero, suc, ◌+◌, ◌-◌, ◌*◌, ◌%◌, ◌<◌, ◌≤◌, ◌&&◌, ◌||◌, ◌++◌, not, nat_le, nat_lt, nat_eq, Bool, List, [], ◌∷◌, length, drop, replicate, slice_index, slice_range, Option, Some, None, Result, Ok, Err, if◌then◌else◌}
 use Rattle.std.specs.List.{starts_with}
 use Rattle.byteorder.specs.Endian.{little_number}
-use Rattle.guest_ram.specs.Bytes.{ram_after}
-use Rattle.guest_ram.specs.declared.ram.TheConstants.{BASE}
+use Rattle.guest_ram.specs.Bytes.{ram_base, ram_after}
 use Rattle.elf_image.specs.declared.fault.ElfFault.{ElfFault}
 use Rattle.elf_image.specs.declared.fault.ElfFault.TheVariants.{NotElf, Truncated, WrongKind, BadSegment, OutsideRam, BadEntry}
 use Rattle.elf_image.specs.declared.segment.Segment.{Segment}
@@ -31,7 +30,7 @@ is_kind b =
 
 -- whether the addresses from one on lie in RAM of a size
 abbrev pub in_ram : ℕ → ℕ → ℕ → Bool
-in_ram size addr len = nat_le BASE addr && nat_le (addr + len) (BASE + size)
+in_ram size addr len = nat_le ram_base addr && nat_le (addr + len) (ram_base + size)
 
 infixl 10 ◌>>=◌
 abbrev pub ◌>>=◌ : {A B : Type 0} → Result A ElfFault → (A → Result B ElfFault) → Result B ElfFault
@@ -116,5 +115,5 @@ elf_ram b ram = put_segments b ram 0 (phnum b)
 pub record IsPlaceable (size : ℕ) (ram : List ℕ) (s : Segment) : Type 0 where
   pub file : s.offset + s.filesz ≤ size
   pub memory : s.filesz ≤ s.memsz
-  pub low : 0 < s.memsz → BASE ≤ s.paddr
-  pub high : 0 < s.memsz → s.paddr + s.memsz ≤ BASE + length ram
+  pub low : 0 < s.memsz → ram_base ≤ s.paddr
+  pub high : 0 < s.memsz → s.paddr + s.memsz ≤ ram_base + length ram

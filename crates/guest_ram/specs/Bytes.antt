@@ -1,4 +1,5 @@
--- RAM as a list of bytes, whose first has the address BASE.
+-- RAM as a list of bytes. A load or store moves a byte, a half word or a word, whose address is a multiple of its width and whose low byte
+-- stands first (RISC-V unprivileged manual, section "Load and Store Instructions").
 use Rattle.std.specs.Prelude.{◌≡◌, ℕ, ◌+◌, ◌-◌, ◌%◌, ◌^◌, ◌≤◌, nat_le, ◌==◌, ◌&&◌, not, if◌then◌else◌, Bool, Result, Ok, Err, List, length, slice_index, slice_set}
 use Rattle.tb_base.specs.declared.width.Width.{Width}
 use Rattle.tb_base.specs.declared.width.Width.TheVariants.{Byte, Half, Word}
@@ -6,19 +7,22 @@ use Rattle.tb_base.specs.Widths.{width_bytes}
 use Rattle.byte_pages.specs.LittleEndian.{half_at, word_at, with_half, with_word, with_bytes}
 use Rattle.guest_ram.specs.declared.fault.MemFault.{MemFault}
 use Rattle.guest_ram.specs.declared.fault.MemFault.TheVariants.{Misaligned, Outside}
-use Rattle.guest_ram.specs.declared.ram.TheConstants.{BASE}
 
--- a size that RAM can have
+-- the address of the first byte of RAM: 0x8000_0000, by this machine's map of addresses
+abbrev pub ram_base : ℕ
+ram_base = 2147483648
+
+-- a size that RAM can have: whole pages of 4096 bytes, and 16 MiB at most
 abbrev pub IsRamSize : ℕ → Type 0
-IsRamSize size = (4096 ≤ size) × (size ≤ 2 ^ 24) × (size % 4096 ≡ 0)
+IsRamSize size = (4096 ≤ size) × (size ≤ 16777216) × (size % 4096 ≡ 0)
 
 -- whether the bytes from an address on lie in RAM
 abbrev pub holds_range : List ℕ → ℕ → ℕ → Bool
-holds_range bytes addr len = nat_le BASE addr && nat_le (addr + len) (BASE + length bytes)
+holds_range bytes addr len = nat_le ram_base addr && nat_le (addr + len) (ram_base + length bytes)
 
 -- the same as a fact
 abbrev pub IsInRam : List ℕ → ℕ → ℕ → Type 0
-IsInRam bytes addr len = (BASE ≤ addr) × (addr + len ≤ BASE + length bytes)
+IsInRam bytes addr len = (ram_base ≤ addr) × (addr + len ≤ ram_base + length bytes)
 
 -- the number that stands from a place on, low byte first
 abbrev pub value_at : List ℕ → ℕ → Width → ℕ
@@ -37,7 +41,7 @@ bytes_after bytes at Word v = with_word bytes at v
 abbrev pub place_of : List ℕ → ℕ → Width → Result ℕ MemFault
 place_of bytes addr width =
     if not (addr % width_bytes width == 0) then Err Misaligned else
-    if holds_range bytes addr (width_bytes width) then Ok (addr - BASE) else Err Outside
+    if holds_range bytes addr (width_bytes width) then Ok (addr - ram_base) else Err Outside
 
 -- what is found at the place, or the refusal
 abbrev pub at_place : {A : Type 0} → Result ℕ MemFault → (ℕ → A) → Result A MemFault
@@ -54,4 +58,4 @@ ram_store bytes addr width v = at_place (place_of bytes addr width) (λ at. byte
 
 -- RAM after these bytes were put from an address on
 abbrev pub ram_after : List ℕ → ℕ → List ℕ → List ℕ
-ram_after bytes addr put = with_bytes bytes (addr - BASE) put
+ram_after bytes addr put = with_bytes bytes (addr - ram_base) put

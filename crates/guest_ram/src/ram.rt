@@ -1,7 +1,7 @@
 //! RAM by address.
 ghost use Rattle.std.specs.Prelude.{◌≡◌, ◌+◌, ◌-◌, ◌<◌, ◌≤◌, IfOk, MatchResult, Ok, Err, length, replicate, slice_range};
 ghost use Rattle.tb_base.specs.Widths.{width_bytes};
-ghost use Rattle.guest_ram.specs.Bytes.{IsRamSize, IsInRam, holds_range, place_of, ram_load, ram_store, ram_after, value_at, bytes_after};
+ghost use Rattle.guest_ram.specs.Bytes.{ram_base, IsRamSize, IsInRam, holds_range, place_of, ram_load, ram_store, ram_after, value_at, bytes_after};
 
 use crate::fault::MemFault;
 use byte_pages::Pages;
@@ -142,7 +142,7 @@ impl Ram {
     /// Copies the bytes from an address on, as many as `to` has.
     pub fn take(&self, addr: u32, to: &mut [u8])
         requires { IsInRam self.now addr (length to.old) }
-        ensures { to.new ≡ slice_range self.now (addr - BASE) (addr - BASE + length to.old) }
+        ensures { to.new ≡ slice_range self.now (addr - ram_base) (addr - ram_base + length to.old) }
     {
         self.pages.read_into((addr - BASE) as usize, to);
     }

@@ -1,29 +1,31 @@
 -- A step of a hart that is awake makes one store at most.
-use Rattle.std.proofs.Common.{◌≡◌, ℕ, ◌+◌, ◌%◌, ◌^◌, Option, Some, None, Result, Ok, Err, inl, inr, refl}
+use Rattle.std.proofs.Common.{◌≡◌, ℕ, Option, Some, None, Result, Ok, Err, inl, inr, refl}
 use Rattle.tb_base.specs.declared.width.Width.{Width}
 use Rattle.tb_base.specs.declared.width.Width.TheVariants.{Byte, Half, Word}
 use Rattle.guest_ram.specs.declared.fault.MemFault.{MemFault}
 use Rattle.csr_file.specs.declared.view.CsrView.{CsrView}
 use Rattle.csr_file.specs.Interrupts.{pending_of}
-use Rattle.rv_arith.specs.Words.{word_of}
 use Rattle.rv_word.specs.declared.op.Op.{Op}
 use Rattle.rv_word.specs.declared.op.Op.TheVariants as op
 use Rattle.rv_word.specs.Table.{search, table}
 use Rattle.rv_exec.specs.BusOf.{BusOf}
 use Rattle.rv_exec.specs.HartState.{HartState}
-use Rattle.rv_exec.specs.Meaning.{Outcome, Done, Raises, meaning, reg_of, store_done}
+use Rattle.rv_exec.specs.Meaning.{Outcome, Done, Raises, meaning, reg_of, address, store_done, store_to}
 use Rattle.rv_exec.specs.Moves.{Moves}
 use Rattle.rv_exec.specs.Step.{finished, decoded, fetched_step, after_pending, awake}
 
-store_moves : {S : Type 0} (b : BusOf S) (h : HartState) (s : S) (addr : ℕ) (width : Width) (value : ℕ) (r : Result S MemFault) → b.stored s addr width value ≡ r →
+store_moves : {S : Type 0} (b : BusOf S) (h : HartState) (s : S) (width : Width) (value addr : ℕ) (r : Result S MemFault) → b.stored s addr width value ≡ r →
     Moves b s (store_done h s addr r).1
-store_moves b h s addr width value (Ok s') e = inr (addr, (width, (value, e)))
-store_moves b h s addr width value (Err x) e = inl refl
+store_moves b h s width value addr (Ok s') e = inr (addr, (width, (value, e)))
+store_moves b h s width value addr (Err x) e = inl refl
+
+store_to_moves : {S : Type 0} (b : BusOf S) (h : HartState) (s : S) (width : Width) (value addr : ℕ) → Moves b s (store_to b h s width value addr).1
+store_to_moves b h s width value addr = store_moves b h s width value addr (b.stored s addr width value) refl
 
 meaning_moves : {S : Type 0} (b : BusOf S) (h : HartState) (s : S) (v : CsrView) (word : ℕ) (o : Op) → Moves b s (meaning b h s v word o).1
-meaning_moves b h s v word (op.Sb rs1 rs2 imm) = store_moves b h s ((reg_of h rs1 + word_of imm) % 2 ^ 32) Byte (reg_of h rs2) (b.stored s ((reg_of h rs1 + word_of imm) % 2 ^ 32) Byte (reg_of h rs2)) refl
-meaning_moves b h s v word (op.Sh rs1 rs2 imm) = store_moves b h s ((reg_of h rs1 + word_of imm) % 2 ^ 32) Half (reg_of h rs2) (b.stored s ((reg_of h rs1 + word_of imm) % 2 ^ 32) Half (reg_of h rs2)) refl
-meaning_moves b h s v word (op.Sw rs1 rs2 imm) = store_moves b h s ((reg_of h rs1 + word_of imm) % 2 ^ 32) Word (reg_of h rs2) (b.stored s ((reg_of h rs1 + word_of imm) % 2 ^ 32) Word (reg_of h rs2)) refl
+meaning_moves b h s v word (op.Sb rs1 rs2 imm) = store_to_moves b h s Byte (reg_of h rs2) (address h rs1 imm)
+meaning_moves b h s v word (op.Sh rs1 rs2 imm) = store_to_moves b h s Half (reg_of h rs2) (address h rs1 imm)
+meaning_moves b h s v word (op.Sw rs1 rs2 imm) = store_to_moves b h s Word (reg_of h rs2) (address h rs1 imm)
 meaning_moves b h s v word o = inl refl
 
 finished_moves : {S : Type 0} (b : BusOf S) (h : HartState) (s : S) (word : ℕ) (o : Outcome × S) → Moves b s o.1 → Moves b s (finished h word o).bus

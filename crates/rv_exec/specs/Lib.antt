@@ -1,3 +1,5 @@
+-- Claims: Step and Meaning, over HartState and BusOf, and Moves for what a step leaves of the bus.
+-- What proofs keep: Ends, the answers of the functions that perform an instruction.
 pub mod BusOf
 pub mod Ends
 pub mod HartState

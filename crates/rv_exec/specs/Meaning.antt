@@ -1,9 +1,11 @@
 -- What each instruction does.
 use Rattle.std.specs.Prelude.{ℕ, ◌+◌, ◌*◌, ◌-◌, ◌/◌, ◌%◌, ◌^◌, ◌==◌, not, if◌then◌else◌, Bool, true, Option, Some, None, Result, Ok, Err, ℤ, List, slice_index, slice_set, bit_and, bit_or, bit_xor}
+use Rattle.tb_base.specs.declared.width.Width.{Width}
 use Rattle.tb_base.specs.declared.width.Width.TheVariants.{Byte, Half, Word}
 use Rattle.guest_ram.specs.declared.fault.MemFault.{MemFault}
 use Rattle.guest_ram.specs.declared.fault.MemFault.TheVariants.{Misaligned, Outside}
 use Rattle.csr_file.specs.declared.view.CsrView.{CsrView}
+use Rattle.csr_file.specs.Causes as trap
 use Rattle.csr_file.specs.Csrs.{bit_of}
 use Rattle.csr_file.specs.Table.{csr_read, csr_write, is_writable}
 use Rattle.csr_file.specs.Traps.{mret_csrs}
@@ -33,10 +35,12 @@ abbrev pub value_done : HartState → ℕ → ℕ → Outcome
 value_done h rd v = Done (record h { regs = put_reg h.regs rd v; pc = (h.pc + 4) % 2 ^ 32 })
 
 abbrev pub jump : HartState → ℕ → ℕ → Outcome
-jump h rd target = if target % 4 == 0 then Done (record h { regs = put_reg h.regs rd ((h.pc + 4) % 2 ^ 32); pc = target }) else Raises 0 target
+jump h rd target =
+    if target % 4 == 0 then Done (record h { regs = put_reg h.regs rd ((h.pc + 4) % 2 ^ 32); pc = target }) else
+    Raises trap.instruction_misaligned target
 
 abbrev pub goes : HartState → ℕ → Outcome
-goes h target = if target % 4 == 0 then Done (record h { pc = target }) else Raises 0 target
+goes h target = if target % 4 == 0 then Done (record h { pc = target }) else Raises trap.instruction_misaligned target
 
 abbrev pub branch : HartState → Bool → ℤ → Outcome
 branch h taken imm = if taken then goes h ((h.pc + word_of imm) % 2 ^ 32) else Done (onward h)
@@ -45,12 +49,12 @@ abbrev pub as_is : ℕ → ℕ
 as_is w = w
 
 abbrev pub load_cause : MemFault → ℕ
-load_cause Misaligned = 4
-load_cause Outside = 5
+load_cause Misaligned = trap.load_misaligned
+load_cause Outside = trap.load_access_fault
 
 abbrev pub store_cause : MemFault → ℕ
-store_cause Misaligned = 6
-store_cause Outside = 7
+store_cause Misaligned = trap.store_misaligned
+store_cause Outside = trap.store_access_fault
 
 abbrev pub load_done : HartState → ℕ → (ℕ → ℕ) → ℕ → Result ℕ MemFault → Outcome
 load_done h rd f addr (Ok w) = value_done h rd (f w)
@@ -59,6 +63,18 @@ load_done h rd f addr (Err e) = Raises (load_cause e) addr
 abbrev pub store_done : {S : Type 0} → HartState → S → ℕ → Result S MemFault → Outcome × S
 store_done h s addr (Ok s') = (Done (onward h), s')
 store_done h s addr (Err e) = (Raises (store_cause e) addr, s)
+
+-- the address of a load or a store (RISC-V unprivileged manual, section "Load and Store Instructions")
+abbrev pub address : HartState → ℕ → ℤ → ℕ
+address h rs1 imm = (reg_of h rs1 + word_of imm) % 2 ^ 32
+
+-- a load from an address, of whose number this value is put
+abbrev pub load_from : {S : Type 0} → BusOf S → HartState → S → Width → (ℕ → ℕ) → ℕ → ℕ → Outcome × S
+load_from b h s width f rd addr = (load_done h rd f addr (b.loaded s addr width), s)
+
+-- a store to an address
+abbrev pub store_to : {S : Type 0} → BusOf S → HartState → S → Width → ℕ → ℕ → Outcome × S
+store_to b h s width value addr = store_done h s addr (b.stored s addr width value)
 
 -- the value that is written, from the old value and the operand
 abbrev pub csrrw_value : ℕ → ℕ → ℕ
@@ -71,10 +87,12 @@ abbrev pub csrrc_value : ℕ → ℕ → ℕ
 csrrc_value old x = bit_and old (2 ^ 32 - 1 - x)
 
 abbrev pub csr_written : HartState → ℕ → ℕ → ℕ → ℕ → ℕ → Outcome
-csr_written h word rd csr old new = if is_writable csr then Done (record h { regs = put_reg h.regs rd old; pc = (h.pc + 4) % 2 ^ 32; csrs = csr_write h.csrs csr new }) else Raises 2 word
+csr_written h word rd csr old new =
+    if is_writable csr then Done (record h { regs = put_reg h.regs rd old; pc = (h.pc + 4) % 2 ^ 32; csrs = csr_write h.csrs csr new }) else
+    Raises trap.illegal_instruction word
 
 abbrev pub csr_got : HartState → ℕ → ℕ → ℕ → (ℕ → ℕ → ℕ) → ℕ → Bool → Option ℕ → Outcome
-csr_got h word rd csr f x writes None = Raises 2 word
+csr_got h word rd csr f x writes None = Raises trap.illegal_instruction word
 csr_got h word rd csr f x writes (Some old) = if writes then csr_written h word rd csr old (f old x) else value_done h rd old
 
 abbrev pub csr_done : HartState → CsrView → ℕ → ℕ → ℕ → (ℕ → ℕ → ℕ) → ℕ → Bool → Outcome
@@ -94,14 +112,14 @@ meaning b h s v word (op.Blt rs1 rs2 imm) = (branch h (word_slt (reg_of h rs1) (
 meaning b h s v word (op.Bge rs1 rs2 imm) = (branch h (not (word_slt (reg_of h rs1) (reg_of h rs2))) imm, s)
 meaning b h s v word (op.Bltu rs1 rs2 imm) = (branch h (word_sltu (reg_of h rs1) (reg_of h rs2)) imm, s)
 meaning b h s v word (op.Bgeu rs1 rs2 imm) = (branch h (not (word_sltu (reg_of h rs1) (reg_of h rs2))) imm, s)
-meaning b h s v word (op.Lb rd rs1 imm) = (load_done h rd word_sext8 ((reg_of h rs1 + word_of imm) % 2 ^ 32) (b.loaded s ((reg_of h rs1 + word_of imm) % 2 ^ 32) Byte), s)
-meaning b h s v word (op.Lh rd rs1 imm) = (load_done h rd word_sext16 ((reg_of h rs1 + word_of imm) % 2 ^ 32) (b.loaded s ((reg_of h rs1 + word_of imm) % 2 ^ 32) Half), s)
-meaning b h s v word (op.Lw rd rs1 imm) = (load_done h rd as_is ((reg_of h rs1 + word_of imm) % 2 ^ 32) (b.loaded s ((reg_of h rs1 + word_of imm) % 2 ^ 32) Word), s)
-meaning b h s v word (op.Lbu rd rs1 imm) = (load_done h rd as_is ((reg_of h rs1 + word_of imm) % 2 ^ 32) (b.loaded s ((reg_of h rs1 + word_of imm) % 2 ^ 32) Byte), s)
-meaning b h s v word (op.Lhu rd rs1 imm) = (load_done h rd as_is ((reg_of h rs1 + word_of imm) % 2 ^ 32) (b.loaded s ((reg_of h rs1 + word_of imm) % 2 ^ 32) Half), s)
-meaning b h s v word (op.Sb rs1 rs2 imm) = store_done h s ((reg_of h rs1 + word_of imm) % 2 ^ 32) (b.stored s ((reg_of h rs1 + word_of imm) % 2 ^ 32) Byte (reg_of h rs2))
-meaning b h s v word (op.Sh rs1 rs2 imm) = store_done h s ((reg_of h rs1 + word_of imm) % 2 ^ 32) (b.stored s ((reg_of h rs1 + word_of imm) % 2 ^ 32) Half (reg_of h rs2))
-meaning b h s v word (op.Sw rs1 rs2 imm) = store_done h s ((reg_of h rs1 + word_of imm) % 2 ^ 32) (b.stored s ((reg_of h rs1 + word_of imm) % 2 ^ 32) Word (reg_of h rs2))
+meaning b h s v word (op.Lb rd rs1 imm) = load_from b h s Byte word_sext8 rd (address h rs1 imm)
+meaning b h s v word (op.Lh rd rs1 imm) = load_from b h s Half word_sext16 rd (address h rs1 imm)
+meaning b h s v word (op.Lw rd rs1 imm) = load_from b h s Word as_is rd (address h rs1 imm)
+meaning b h s v word (op.Lbu rd rs1 imm) = load_from b h s Byte as_is rd (address h rs1 imm)
+meaning b h s v word (op.Lhu rd rs1 imm) = load_from b h s Half as_is rd (address h rs1 imm)
+meaning b h s v word (op.Sb rs1 rs2 imm) = store_to b h s Byte (reg_of h rs2) (address h rs1 imm)
+meaning b h s v word (op.Sh rs1 rs2 imm) = store_to b h s Half (reg_of h rs2) (address h rs1 imm)
+meaning b h s v word (op.Sw rs1 rs2 imm) = store_to b h s Word (reg_of h rs2) (address h rs1 imm)
 meaning b h s v word (op.Addi rd rs1 imm) = (value_done h rd ((reg_of h rs1 + word_of imm) % 2 ^ 32), s)
 meaning b h s v word (op.Slti rd rs1 imm) = (value_done h rd (bit_of (word_slt (reg_of h rs1) (word_of imm))), s)
 meaning b h s v word (op.Sltiu rd rs1 imm) = (value_done h rd (bit_of (word_sltu (reg_of h rs1) (word_of imm))), s)
@@ -137,7 +155,7 @@ meaning b h s v word (op.Csrrc rd csr rs1) = (csr_done h v word rd csr csrrc_val
 meaning b h s v word (op.Csrrwi rd csr zimm) = (csr_done h v word rd csr csrrw_value zimm (true), s)
 meaning b h s v word (op.Csrrsi rd csr zimm) = (csr_done h v word rd csr csrrs_value zimm (not (zimm == 0)), s)
 meaning b h s v word (op.Csrrci rd csr zimm) = (csr_done h v word rd csr csrrc_value zimm (not (zimm == 0)), s)
-meaning b h s v word op.Ecall = (Raises 11 0, s)
-meaning b h s v word op.Ebreak = (Raises 3 0, s)
+meaning b h s v word op.Ecall = (Raises trap.machine_call 0, s)
+meaning b h s v word op.Ebreak = (Raises trap.breakpoint 0, s)
 meaning b h s v word op.Mret = (Done (record h { csrs = mret_csrs h.csrs; pc = h.csrs.mepc }), s)
 meaning b h s v word op.Wfi = (Done (record h { waiting = true; pc = (h.pc + 4) % 2 ^ 32 }), s)

@@ -1,8 +1,11 @@
--- One step of a hart: the six cases, in their order.
+-- One step of a hart: the six cases, in their order (RISC-V privileged manual, sections "Machine Interrupt (mip and mie) Registers", "Machine
+-- Cause (mcause) Register" and "Wait for Interrupt"). Interrupts come before the fetch, the fetch before an unknown word, and that before what
+-- the instruction itself raises.
 use Rattle.std.specs.Prelude.{ℕ, ◌+◌, ◌%◌, ◌^◌, not, ◌&&◌, ◌||◌, if◌then◌else◌, Bool, false, Option, Some, None, Result, Ok, Err, replicate}
 use Rattle.guest_ram.specs.declared.fault.MemFault.{MemFault}
 use Rattle.csr_file.specs.declared.lines.Lines.{Lines}
 use Rattle.csr_file.specs.declared.view.CsrView.{CsrView}
+use Rattle.csr_file.specs.Causes as trap
 use Rattle.csr_file.specs.Interrupts.{pending_of, wakes_of}
 use Rattle.csr_file.specs.Traps.{trap_csrs, trap_pc, reset_csrs}
 use Rattle.rv_word.specs.declared.op.Op.{Op}
@@ -38,15 +41,19 @@ abbrev pub trapped : {S : Type 0} → HartState → S → ℕ → ℕ → After 
 trapped h s cause value = record { hart = trap_hart h cause value; bus = s; out = Trapped cause h.pc }
 
 abbrev pub finished : {S : Type 0} → HartState → ℕ → Outcome × S → After S
-finished h word (Done h', s) = record { hart = record h' { steps = (h'.steps + 1) % 2 ^ 64; retired = (h'.retired + 1) % 2 ^ 64 }; bus = s; out = Retired h.pc word }
+finished h word (Done h', s) = record {
+  hart = record h' { steps = (h'.steps + 1) % 2 ^ 64; retired = (h'.retired + 1) % 2 ^ 64 };
+  bus = s;
+  out = Retired h.pc word;
+}
 finished h word (Raises cause value, s) = trapped h s cause value
 
 abbrev pub decoded : {S : Type 0} → BusOf S → HartState → S → ℕ → Option Op → After S
-decoded b h s word None = trapped h s 2 word
+decoded b h s word None = trapped h s trap.illegal_instruction word
 decoded b h s word (Some op) = finished h word (meaning b h s (view_of b h s) word op)
 
 abbrev pub fetched_step : {S : Type 0} → BusOf S → HartState → S → Result ℕ MemFault → After S
-fetched_step b h s (Err e) = trapped h s 1 h.pc
+fetched_step b h s (Err e) = trapped h s trap.instruction_access_fault h.pc
 fetched_step b h s (Ok word) = decoded b h s word (search table word)
 
 abbrev pub after_pending : {S : Type 0} → BusOf S → HartState → S → Option ℕ → After S

@@ -1,4 +1,5 @@
--- The operands that a word can hold.
+-- The operands that a word can hold (RISC-V unprivileged manual, chapter "RV32I", section "Immediate Encoding Variants"): 12 bits with a sign
+-- in the I and S formats, 13 and 21 bits with a sign and the lowest one 0 in B and J, and the upper 20 bits in U.
 use Rattle.std.specs.Prelude.{◌≡◌, ℕ, ◌-◌, ◌<◌, ◌%◌, ℤ, pos, negsuc, ◌≤ℤ◌, ◌<ℤ◌}
 use Rattle.std.specs.Int.{w32, cast_unsigned}
 use Rattle.rv_word.specs.declared.op.Op.{Op}

@@ -1,3 +1,4 @@
+-- Claims: all of these. FilesInMemory and SinkInMemory are of the files and the sink in memory.
 pub mod Causes
 pub mod Reads
 pub mod Puts
