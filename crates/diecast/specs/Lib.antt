@@ -1,3 +1,2 @@
--- Claims: Codes, the exit status of each end, and Asked, what the words of a command ask for.
-pub mod Asked
+-- Claims: Codes, the exit status of each end.
 pub mod Codes

@@ -6,11 +6,10 @@ ghost use Rattle.host_plan.specs.Placing.{placed};
 ghost use Rattle.dev_face.specs.States.{IsBlankFor};
 ghost use Rattle.dev_face.specs.declared.kind.Kind.{Kind};
 ghost use Rattle.bench_build.specs.declared.build_fault.BuildFault.TheVariants as build;
-ghost use Rattle.tb_top.specs.Ends.{Ends, world, MayRun};
+ghost use Rattle.tb_top.specs.Ends.{Ends, world, AsksPlan, MayRun};
 ghost use Rattle.tb_top.specs.Headline.{Headline};
 ghost use Rattle.tb_top.specs.Lines.{Told};
 ghost use Rattle.tb_top.specs.Plans.{Plans};
-ghost use Rattle.diecast.specs.Asked.{AsksPlan};
 
 use clint_dev::Clint;
 use dev_face::{DevConfig, Device};

@@ -1,7 +1,6 @@
 -- What a command that is told can come to.
 use Rattle.std.proofs.Common.{◌≡◌, ℕ, ◌<◌, ◌≤◌, List, [], length, get_or, Option, Some, IfSome, Result, Ok, Err, inl, inr, sym, ap, ◌∙◌, subst, arith}
 use Rattle.std.specs.Fmt.{decimal}
-use Rattle.tb_base.specs.declared.limits.TheConstants.{EXPERIMENT_FILE}
 use Rattle.exp_file.specs.Lists.{without_room}
 use Rattle.exp_file.specs.Reading.{reading}
 use Rattle.exp_file.specs.declared.exp_fault.ExpFault.{ExpFault}
@@ -11,7 +10,7 @@ use Rattle.tb_top.specs.declared.words.Task.TheVariants.{Run, Plan}
 use Rattle.tb_top.specs.declared.words.WordFault.{WordFault}
 use Rattle.tb_top.specs.declared.words.WordFault.TheVariants.{NotWords, EmptyName, BadNumber}
 use Rattle.tb_top.specs.Ends.{World, Asks, Commanded, FileRead, WellFormed, IsTooLong}
-use Rattle.tb_top.specs.Reads.{IsRead, Says}
+use Rattle.tb_top.specs.Reads.{IsRead, Says, experiment_limit}
 use Rattle.tb_top.specs.Words.{IsRun, IsPlan, IsCommand, IsWithinLimit, Gives}
 
 -- the file and the number of a run, and the file of a plan
@@ -76,13 +75,13 @@ usage_not w t e BadNumber asks bad = number_not w.words asks.name t asks.command
 told_is : (w : World) (t u : Task) (e : Experiment) (asks : Asks w.words w.held t e) (name : List ℕ) → IsCommand w.words name u → w.held name ≡ Some asks.bytes
 told_is w t u e asks name command = ap w.held (sym (command_file w.words name u command) ∙ command_file w.words asks.name t asks.command) ∙ asks.told
 
-pub file_short : (w : World) (t : Task) (e : Experiment) (asks : Asks w.words w.held t e) → Commanded w (λ name u. IsTooLong w EXPERIMENT_FILE name) → ⊥
+pub file_short : (w : World) (t : Task) (e : Experiment) (asks : Asks w.words w.held t e) → Commanded w (λ name u. IsTooLong w experiment_limit name) → ⊥
 file_short w t e asks h =
     let limit = asks.limit in
-    let more : EXPERIMENT_FILE < length asks.bytes = of_told (λ b. EXPERIMENT_FILE < length b) (w.held h.0) asks.bytes (told_is w t h.1.0 e asks h.0 h.1.1) h.1.2 in
+    let more : experiment_limit < length asks.bytes = of_told (λ b. experiment_limit < length b) (w.held h.0) asks.bytes (told_is w t h.1.0 e asks h.0 h.1.1) h.1.2 in
     omega (arith, limit, more)
 
-says_it : (w : World) (t u : Task) (e : Experiment) (asks : Asks w.words w.held t e) (name b : List ℕ) → IsCommand w.words name u → IsRead (w.held name) EXPERIMENT_FILE b → Says b e
+says_it : (w : World) (t u : Task) (e : Experiment) (asks : Asks w.words w.held t e) (name b : List ℕ) → IsCommand w.words name u → IsRead (w.held name) experiment_limit b → Says b e
 says_it w t u e asks name b command read =
     let same : b ≡ asks.bytes = of_told (λ z. b ≡ z) (w.held name) asks.bytes (told_is w t u e asks name command) read.held in
     subst (λ (z : List ℕ). Says z e) (sym same) asks.says
@@ -96,7 +95,7 @@ pub record IsSaid (w : World) (P : Task → Experiment → Type 0) : Type 0 wher
   pub task : Task
   pub command : IsCommand w.words name task
   pub bytes : List ℕ
-  pub read : IsRead (w.held name) EXPERIMENT_FILE bytes
+  pub read : IsRead (w.held name) experiment_limit bytes
   pub experiment : Experiment
   pub says : Says bytes experiment
   pub holds : P task experiment

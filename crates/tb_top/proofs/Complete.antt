@@ -1,7 +1,7 @@
 -- Where all that is told is right and nothing fails, a run comes to its end, or finds no memory.
 use Rattle.std.proofs.Common.{◌≡◌, ℕ, ◌<◌, ◌≤◌, ◌⊎◌, List, length, Some, inl, inr, refl, sym, ap, subst, arith}
 use Rattle.std.specs.Prelude.{slice_get}
-use Rattle.tb_base.specs.declared.limits.TheConstants.{IMAGE_FILE}
+use Rattle.tb_top.specs.Reads.{image_limit}
 use Rattle.tb_io.specs.Causes.{Rose}
 use Rattle.exp_file.specs.declared.experiment.Experiment.{Experiment}
 use Rattle.exp_file.specs.declared.guest_spec.GuestSpec.{GuestSpec}
@@ -36,7 +36,7 @@ overload_not w e o may over =
 
 -- a guest at whose image the command stopped is a guest of the run, whose image is told and short
 at_image : (w : World) (e : Experiment) (i : ℕ) (P : GuestSpec → Type 0) → MayRun w.words w.held e → AtImage w i P
-    → (g : GuestSpec) × P g × (b : List ℕ) × (w.held g.image ≡ Some b) × (length b ≤ IMAGE_FILE) × IsTaken g b
+    → (g : GuestSpec) × P g × (b : List ℕ) × (w.held g.image ≡ Some b) × (length b ≤ image_limit) × IsTaken g b
 at_image w e i P may at =
     let k = said w _ at in
     let stops = k.holds.1.1 in
@@ -45,14 +45,14 @@ at_image w e i P may at =
     (stops.guest, stops.why, told.0, told.1, told.2, told.3)
 
 -- what an image would have to be
-long_not : (w : World) (g : GuestSpec) → IsTooLong w IMAGE_FILE g.image → (b : List ℕ) → w.held g.image ≡ Some b → length b ≤ IMAGE_FILE → ⊥
+long_not : (w : World) (g : GuestSpec) → IsTooLong w image_limit g.image → (b : List ℕ) → w.held g.image ≡ Some b → length b ≤ image_limit → ⊥
 long_not w g long b told short =
-    let more : IMAGE_FILE < length b = of_told (λ t. IMAGE_FILE < length t) (w.held g.image) b told long in
+    let more : image_limit < length b = of_told (λ t. image_limit < length t) (w.held g.image) b told long in
     omega (arith, short, more)
 
-image_short : (w : World) (e : Experiment) (i : ℕ) → MayRun w.words w.held e → AtImage w i (λ g. IsTooLong w IMAGE_FILE g.image) → ⊥
+image_short : (w : World) (e : Experiment) (i : ℕ) → MayRun w.words w.held e → AtImage w i (λ g. IsTooLong w image_limit g.image) → ⊥
 image_short w e i may at =
-    let got = at_image w e i (λ g. IsTooLong w IMAGE_FILE g.image) may at in
+    let got = at_image w e i (λ g. IsTooLong w image_limit g.image) may at in
     long_not w got.0 got.1 got.2 got.3 got.4
 
 fault_not : (w : World) (g : GuestSpec) (fault : ImageFault) → IsRefused w.held (λ k b. IsFault k b fault) g → (b : List ℕ) → w.held g.image ≡ Some b → IsTaken g b → ⊥

@@ -1,7 +1,6 @@
 -- How a run of an experiment that fits ends.
 use Rattle.std.proofs.Common.{◌≡◌, ℕ, ◌≤◌, List, length, Result, Ok, Err, inl, inr, subst}
 use Rattle.std.specs.Prelude.{◌⊎◌}
-use Rattle.tb_base.specs.declared.limits.TheConstants.{EXPERIMENT_FILE}
 use Rattle.exp_file.specs.declared.experiment.Experiment.{Experiment}
 use Rattle.host_plan.specs.Fits.{Fits, IsFirstOverload}
 use Rattle.host_plan.specs.declared.overload.Overload.{Overload}
@@ -18,7 +17,7 @@ use Rattle.tb_top.specs.declared.status.Status.{Status}
 use Rattle.tb_top.specs.declared.status.Status.TheVariants.{Done, Overload as Over, WriteFault, Memory}
 use Rattle.tb_top.specs.Ends.{World, Ends, Placed, Quiet, IsPartPut, build_status, load_status}
 use Rattle.tb_top.specs.Loads.{AllLoad}
-use Rattle.tb_top.specs.Reads.{IsRead, Says, AreLoaded}
+use Rattle.tb_top.specs.Reads.{IsRead, Says, AreLoaded, experiment_limit}
 use Rattle.tb_top.specs.Runs.{PutsPart, Runs}
 use Rattle.tb_top.specs.declared.words.Task.{Task}
 use Rattle.tb_top.specs.declared.words.Task.TheVariants.{Run}
@@ -30,11 +29,11 @@ pub record IsAsked (w : World) (n : ℕ) (e : Experiment) : Type 0 where
   pub name : List ℕ
   pub bytes : List ℕ
   pub command : IsRunOf w.words name n
-  pub read : IsRead (w.held name) EXPERIMENT_FILE bytes
+  pub read : IsRead (w.held name) experiment_limit bytes
   pub says : Says bytes e
   pub fits : Fits e (placed e)
 
-pub asked : (w : World) (n : ℕ) (e : Experiment) (slots name bytes : List ℕ) → IsRunOf w.words name n → IsRead (w.held name) EXPERIMENT_FILE bytes → Says bytes e
+pub asked : (w : World) (n : ℕ) (e : Experiment) (slots name bytes : List ℕ) → IsRunOf w.words name n → IsRead (w.held name) experiment_limit bytes → Says bytes e
     → slots ≡ placed e → Fits e slots → IsAsked w n e
 asked w n e slots name bytes command read says same fits =
     record { name = name; bytes = bytes; command = command; read = read; says = says; fits = subst (λ (p : List ℕ). Fits e p) same fits }
@@ -43,7 +42,7 @@ at_placed : (w : World) (n : ℕ) (e : Experiment) (P : Task → Experiment → 
 at_placed w n e P k p = (k.name, (Run n, k.command, (k.bytes, k.read, (e, k.says, (k.fits, p)))))
 
 -- the placement does not fit
-pub ends_over : (w : World) (n : ℕ) (e : Experiment) (slots name b : List ℕ) (o : Overload) → IsRunOf w.words name n → IsRead (w.held name) EXPERIMENT_FILE b → Says b e → slots ≡ placed e
+pub ends_over : (w : World) (n : ℕ) (e : Experiment) (slots name b : List ℕ) (o : Overload) → IsRunOf w.words name n → IsRead (w.held name) experiment_limit b → Says b e → slots ≡ placed e
     → IsFirstOverload e slots o → Quiet w → Ends w (Over o.slot o.need o.have)
 ends_over w n e slots name b o command read says same over quiet =
     (name, (Run n, command, (b, read, (e, says, (subst (λ (p : List ℕ). IsFirstOverload e p o) same over, quiet)))))

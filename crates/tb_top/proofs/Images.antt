@@ -3,7 +3,6 @@ use Rattle.std.proofs.Common.{◌≡◌, ℕ, ◌+◌, ◌<◌, ◌≤◌, List,
 use Rattle.std.specs.Prelude.{slice_get}
 use Rattle.std.proofs.lemmas.List.{take_more}
 use Rattle.std.proofs.lemmas.Option.{slice_get_read}
-use Rattle.tb_base.specs.declared.limits.TheConstants.{IMAGE_FILE}
 use Rattle.exp_file.specs.declared.experiment.Experiment.{Experiment}
 use Rattle.exp_file.specs.declared.guest_spec.GuestSpec.{GuestSpec}
 use Rattle.bench_build.specs.Answers.{IsTaken, IsFault}
@@ -16,11 +15,11 @@ use Rattle.tb_top.specs.declared.load.LoadErr.{LoadErr}
 use Rattle.tb_top.specs.declared.load.LoadErr.TheVariants as load
 use Rattle.tb_top.specs.Fetches.{Misses}
 use Rattle.tb_top.specs.Loads.{ImageLoads, AllLoad, IsRefused}
-use Rattle.tb_top.specs.Reads.{IsRead, AreLoaded, Stops}
+use Rattle.tb_top.specs.Reads.{IsRead, AreLoaded, Stops, image_limit}
 use Rattle.tb_top.proofs.Putting.{rose_since}
 
 AreLoaded-push : (held : List ℕ → Option (List ℕ)) (gs : List GuestSpec) (bs : List (List ℕ)) (g : GuestSpec) (b : List ℕ)
-    → AreLoaded held gs bs → IsRead (held g.image) IMAGE_FILE b → IsTaken g b → AreLoaded held (gs ++ g ∷ []) (bs ++ b ∷ [])
+    → AreLoaded held gs bs → IsRead (held g.image) image_limit b → IsTaken g b → AreLoaded held (gs ++ g ∷ []) (bs ++ b ∷ [])
 AreLoaded-push held [] [] g b h r f = (r, f, tt)
 AreLoaded-push held [] (c ∷ bs) g b h r f = absurd h
 AreLoaded-push held (k ∷ gs) [] g b h r f = absurd h
@@ -53,7 +52,7 @@ goes_on held now e guests old new i before faults risen name g slots gs lt is sa
     let got = loads along.0 along.2 here in
     let lt' : i < length e.guests.items = omega (arith, lt, ap length gs) in
     let is' : g ≡ get_or e.guests.items i g = is ∙ ap (λ (xs : List GuestSpec). get_or xs i g) gs in
-    let r : IsRead (held g.image) IMAGE_FILE got.0 = subst (λ (z : Option (List ℕ)). IsRead z IMAGE_FILE got.0) (ap (λ (h : List ℕ → Option (List ℕ)). h g.image) same) got.1 in
+    let r : IsRead (held g.image) image_limit got.0 = subst (λ (z : Option (List ℕ)). IsRead z image_limit got.0) (ap (λ (h : List ℕ → Option (List ℕ)). h g.image) same) got.1 in
     let t : take (i + 1) e.guests.items ≡ take i e.guests.items ++ g ∷ [] =
     take_more e.guests.items i g lt' ∙ ap (λ (x : GuestSpec). take i e.guests.items ++ x ∷ []) (sym is') in (
       along.0 ++ got.0 ∷ [],
@@ -78,12 +77,12 @@ stops held now e guests old new i before faults risen name g slots (load.Missed 
     let n : length along.0 ≡ i = omega (arith, along.2.count, at_i) in
     let here = at_index guests e.guests.items i (length along.0) g gs lt is n in
     let got = loads along.0 along.2 here in
-    subst (λ (z : ℕ). Stops held e.guests.items z (λ x. Misses (held x.image) IMAGE_FILE x.image before risen name m)) (sym (got.0 ∙ n)) (record {
+    subst (λ (z : ℕ). Stops held e.guests.items z (λ x. Misses (held x.image) image_limit x.image before risen name m)) (sym (got.0 ∙ n)) (record {
       images = along.0;
       loaded = along.1;
       guest = g;
       at = at_index guests e.guests.items i i g gs lt is refl;
-      why = misses_since (held g.image) (now g.image) IMAGE_FILE g.image before faults risen name m (ap (λ (h : List ℕ → Option (List ℕ)). h g.image) same) later got.1;
+      why = misses_since (held g.image) (now g.image) image_limit g.image before faults risen name m (ap (λ (h : List ℕ → Option (List ℕ)). h g.image) same) later got.1;
     })
 stops held now e guests old new i before faults risen name g slots (load.Build (build.Image k fault)) gs lt is same later at_i loads along =
     let n : length along.0 ≡ i = omega (arith, along.2.count, at_i) in

@@ -1,6 +1,5 @@
 -- How a plan ends, in what a status says and where its file is told.
 use Rattle.std.proofs.Common.{◌≡◌, ◌≢◌, ◌∙◌, ℕ, ◌⊎◌, true, false, List, Option, inl, inr, sym, subst}
-use Rattle.tb_base.specs.declared.limits.TheConstants.{EXPERIMENT_FILE}
 use Rattle.tb_io.specs.Causes.{Rose}
 use Rattle.exp_file.specs.Lists.{without_room}
 use Rattle.exp_file.specs.declared.experiment.Experiment.{Experiment}
@@ -16,7 +15,7 @@ use Rattle.tb_top.specs.declared.words.Task.TheVariants.{Run, Plan}
 use Rattle.tb_top.specs.Ends.{World, Ends, Asks, WellFormed, Placed, IsToRun, PutsTask, PutsTaskPart, PutsOver}
 use Rattle.tb_top.specs.Lines.{is_made}
 use Rattle.tb_top.specs.Plans.{Plans}
-use Rattle.tb_top.specs.Reads.{IsRead, Says}
+use Rattle.tb_top.specs.Reads.{IsRead, Says, experiment_limit}
 use Rattle.tb_top.specs.Words.{IsCommand, IsPlanOf}
 use Rattle.tb_top.proofs.Asked.{run_no_plan, usage_not, file_short, refused_not, said, says_same}
 use Rattle.tb_top.proofs.Putting.{part_of}
@@ -27,10 +26,10 @@ pub plan_part : (e : Experiment) (p : List ℕ) (old new : Option (List ℕ)) �
 plan_part e p old new puts = (puts.0, puts.1, part_of old new (plan_text e p puts.0) puts.2)
 
 -- the words ask for the plan of this experiment
-at_plan : (w : World) (e : Experiment) (name b : List ℕ) (P : Task → Experiment → Type 0) → IsPlanOf w.words name → IsRead (w.held name) EXPERIMENT_FILE b → Says b e → P Plan e → WellFormed w P
+at_plan : (w : World) (e : Experiment) (name b : List ℕ) (P : Task → Experiment → Type 0) → IsPlanOf w.words name → IsRead (w.held name) experiment_limit b → Says b e → P Plan e → WellFormed w P
 at_plan w e name b P command read says h = (name, (Plan, command, (b, read, (e, says, h))))
 
-pub ends_plan : (w : World) (e : Experiment) (name b : List ℕ) (s : Status) → IsPlanOf w.words name → IsRead (w.held name) EXPERIMENT_FILE b → Says b e
+pub ends_plan : (w : World) (e : Experiment) (name b : List ℕ) (s : Status) → IsPlanOf w.words name → IsRead (w.held name) experiment_limit b → Says b e
     → Plans e (placed e) w.taken.0 w.taken.1 w.out_faults.0 w.out_faults.1 s → Ends w s
 ends_plan w e name b Done command read says (fits, puts) = (name, (Plan, command, (b, read, (e, says, (fits, puts)))))
 ends_plan w e name b (Over slot need have) command read says (over, puts) = (name, (Plan, command, (b, read, (e, says, (over, puts)))))
@@ -44,7 +43,7 @@ ends_plan w e name b (TooLong f) command read says ends = absurd ends
 ends_plan w e name b (ReadFault f) command read says ends = absurd ends
 
 -- what is said of a status whose line is made is said of want of memory too
-over_memory : (w : World) (e : Experiment) (name b : List ℕ) (t : Task) → IsCommand w.words name t → IsRead (w.held name) EXPERIMENT_FILE b → Says b e → PutsOver w t e → Ends w Memory
+over_memory : (w : World) (e : Experiment) (name b : List ℕ) (t : Task) → IsCommand w.words name t → IsRead (w.held name) experiment_limit b → Says b e → PutsOver w t e → Ends w Memory
 over_memory w e name b (Run n) command read says quiet = inl quiet
 over_memory w e name b Plan command read says puts = inr (name, (Plan, command, (b, read, (e, says, plan_part e (placed e) w.taken.0 w.taken.1 puts))))
 

@@ -1,6 +1,5 @@
 -- How a command may end, and what stands then.
 use Rattle.std.specs.Prelude.{◌≡◌, ℕ, ◌<◌, ◌≤◌, ◌⊎◌, List, length, Option, IfSome, Result, Ok, Err, Some, slice_get}
-use Rattle.tb_base.specs.declared.limits.TheConstants.{EXPERIMENT_FILE, IMAGE_FILE}
 use Rattle.tb_io.specs.Causes.{Rose}
 use Rattle.exp_file.specs.Reading.{reading}
 use Rattle.exp_file.specs.declared.experiment.Experiment.{Experiment}
@@ -22,7 +21,7 @@ use Rattle.tb_top.specs.declared.status.FileId.TheVariants as file
 use Rattle.tb_top.specs.declared.status.Status.{Status}
 use Rattle.tb_top.specs.declared.status.Status.TheVariants.{Done, Overload, Usage, Experiment as Refused, Build, TooLong, ReadFault, WriteFault, Memory}
 use Rattle.tb_top.specs.Loads.{IsRefused}
-use Rattle.tb_top.specs.Reads.{IsRead, Says, AreLoaded, Stops}
+use Rattle.tb_top.specs.Reads.{IsRead, Says, AreLoaded, Stops, experiment_limit, image_limit}
 use Rattle.tb_top.specs.Runs.{PutsAll, PutsPart}
 use Rattle.tb_top.specs.Words.{Gives, IsCommand}
 use Rattle.tb_top.specs.declared.words.Task.{Task}
@@ -52,7 +51,7 @@ Commanded w P = (name : List ℕ) × ((task : Task) × IsCommand w.words name ta
 
 -- the file was read, and has these bytes
 abbrev pub FileRead : World → (Task → List ℕ → Type 0) → Type 0
-FileRead w P = Commanded w (λ name t. (b : List ℕ) × IsRead (w.held name) EXPERIMENT_FILE b × P t b)
+FileRead w P = Commanded w (λ name t. (b : List ℕ) × IsRead (w.held name) experiment_limit b × P t b)
 
 -- they say this experiment
 abbrev pub WellFormed : World → (Task → Experiment → Type 0) → Type 0
@@ -118,11 +117,11 @@ IsPartPut w = WellFormed w (PutsTaskPart w)
 -- what a status says
 abbrev pub Ends : World → Status → Type 0
 Ends w (Usage f) = Quiet w × Gives w.words (Err f)
-Ends w (TooLong file.Experiment) = Quiet w × Commanded w (λ name t. IsTooLong w EXPERIMENT_FILE name)
+Ends w (TooLong file.Experiment) = Quiet w × Commanded w (λ name t. IsTooLong w experiment_limit name)
 Ends w (ReadFault file.Experiment) = Quiet w × Commanded w (λ name t. FailedAt w name)
 Ends w (Refused f) = Quiet w × FileRead w (λ t b. reading b ≡ Err f)
 Ends w (Overload slot need have) = WellFormed w (λ t e. IsFirstOverload e (placed e) (record { slot = slot; need = need; have = have }) × PutsOver w t e)
-Ends w (TooLong (file.Image i)) = Quiet w × AtImage w i (λ g. IsTooLong w IMAGE_FILE g.image)
+Ends w (TooLong (file.Image i)) = Quiet w × AtImage w i (λ g. IsTooLong w image_limit g.image)
 Ends w (ReadFault (file.Image i)) = Quiet w × AtImage w i (λ g. FailedAt w g.image)
 Ends w (Build (build.Image i fault)) = Quiet w × AtImage w i (IsRefused w.held (λ g b. IsFault g b fault))
 Ends w (Build (build.NoDevice kind wanted had)) = Quiet w × Unsupplied w (build.NoDevice kind wanted had)
@@ -154,7 +153,7 @@ fit_status (Err o) = Overload o.slot o.need o.have
 -- the images of the guests are told and within their limit, and each is taken
 abbrev pub AreTold : (List ℕ → Option (List ℕ)) → List GuestSpec → Type 0
 AreTold held guests =
-    (i : ℕ) (g : GuestSpec) → slice_get guests i ≡ Some g → (b : List ℕ) × (held g.image ≡ Some b) × (length b ≤ IMAGE_FILE) × IsTaken g b
+    (i : ℕ) (g : GuestSpec) → slice_get guests i ≡ Some g → (b : List ℕ) × (held g.image ≡ Some b) × (length b ≤ image_limit) × IsTaken g b
 
 -- the words ask for this task, and its file is told, within its limit, and says this experiment
 pub record Asks (words : List (List ℕ)) (held : List ℕ → Option (List ℕ)) (task : Task) (e : Experiment) : Type 0 where
@@ -162,8 +161,12 @@ pub record Asks (words : List (List ℕ)) (held : List ℕ → Option (List ℕ)
   pub bytes : List ℕ
   pub command : IsCommand words name task
   pub told : held name ≡ Some bytes
-  pub limit : length bytes ≤ EXPERIMENT_FILE
+  pub limit : length bytes ≤ experiment_limit
   pub says : Says bytes e
+
+-- they ask for its plan
+abbrev pub AsksPlan : List (List ℕ) → (List ℕ → Option (List ℕ)) → Experiment → Type 0
+AsksPlan words held e = Asks words held Plan e
 
 -- they ask for a run whose placement fits, and its images are taken
 pub record MayRun (words : List (List ℕ)) (held : List ℕ → Option (List ℕ)) (e : Experiment) : Type 0 where

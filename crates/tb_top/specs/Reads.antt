@@ -5,7 +5,13 @@ use Rattle.exp_file.specs.Reading.{reading}
 use Rattle.exp_file.specs.declared.experiment.Experiment.{Experiment}
 use Rattle.exp_file.specs.declared.guest_spec.GuestSpec.{GuestSpec}
 use Rattle.bench_build.specs.Answers.{IsTaken}
-use Rattle.tb_base.specs.declared.limits.TheConstants.{IMAGE_FILE}
+
+-- the bytes that an experiment file may have, and an image
+abbrev pub experiment_limit : ℕ
+experiment_limit = 1048576
+
+abbrev pub image_limit : ℕ
+image_limit = 33554432
 
 -- the bytes that were read of a file within a limit: the told ones, where they are told
 pub record IsRead (told : Option (List ℕ)) (limit : ℕ) (b : List ℕ) : Type 0 where
@@ -21,7 +27,7 @@ abbrev pub AreLoaded : (List ℕ → Option (List ℕ)) → List GuestSpec → L
 AreLoaded held [] [] = Unit {0}
 AreLoaded held [] (b ∷ bs) = ⊥
 AreLoaded held (g ∷ gs) [] = ⊥
-AreLoaded held (g ∷ gs) (b ∷ bs) = IsRead (held g.image) IMAGE_FILE b × IsTaken g b × AreLoaded held gs bs
+AreLoaded held (g ∷ gs) (b ∷ bs) = IsRead (held g.image) image_limit b × IsTaken g b × AreLoaded held gs bs
 
 -- the images before that of guest i were taken, and of that guest something holds
 pub record Stops (held : List ℕ → Option (List ℕ)) (guests : List GuestSpec) (i : ℕ) (P : GuestSpec → Type 0) : Type 0 where

@@ -10,13 +10,11 @@ ghost use Rattle.exp_file.specs.Reading.{is_built};
 ghost use Rattle.host_plan.specs.Placing.{placed};
 ghost use Rattle.tb_top.specs.Headline.{Headline};
 ghost use Rattle.tb_top.specs.Lines.{Told};
-ghost use Rattle.tb_base.specs.declared.limits.TheConstants.{EXPERIMENT_FILE};
 ghost use Rattle.host_plan.specs.Fits.{Fits, IsPlacement};
-ghost use Rattle.tb_top.specs.Ends.{Ends, world, Asks, MayRun, missed_status, fit_status, build_status, load_status};
-ghost use Rattle.tb_top.specs.Reads.{IsRead, Says};
+ghost use Rattle.tb_top.specs.Ends.{Ends, world, AsksPlan, MayRun, missed_status, fit_status, build_status, load_status};
+ghost use Rattle.tb_top.specs.Reads.{IsRead, Says, experiment_limit};
 ghost use Rattle.tb_top.specs.Plans.{Plans};
 ghost use Rattle.tb_top.specs.Words.{IsCommand, IsRunOf, IsWithinLimit};
-ghost use Rattle.tb_top.specs.declared.words.Task.{Task};
 
 use crate::fetch::{Missed, fetch};
 use crate::load::{LoadErr, load_images};
@@ -64,7 +62,7 @@ pub fn diecast<F: Files, O: Sink, M: Sink>(
 
     // Where the file of a plan is told and right and no file fails, the plan is put and the status
     // says whether it fits, but for a failed put and want of memory.
-    ensures planned { (e : Experiment) → Asks (map string_bytes words.now) (F.held files.old) Task.Plan e → ¬ Rose (F.faults files.old) (F.faults files.new)
+    ensures planned { (e : Experiment) → AsksPlan (map string_bytes words.now) (F.held files.old) e → ¬ Rose (F.faults files.old) (F.faults files.new)
         → Plans e (placed e) (O.taken out.old) (O.taken out.new) (O.faults out.old) (O.faults out.new) result }
 
     // A put to `out` that failed is told as a write fault, and as nothing else.
@@ -162,7 +160,7 @@ fn do_task<F: Files, O: Sink, D: Device>(
     requires well_formed { IsWellFormed e.now }
     requires built { is_built e.now ≡ true }
     requires few { IsWithinLimit task }
-    ensures ends { (words : List (List ℕ)) (name b : List ℕ) (before : ℕ) → IsCommand words name task → IsRead (F.held files.old name) EXPERIMENT_FILE b
+    ensures ends { (words : List (List ℕ)) (name b : List ℕ) (before : ℕ) → IsCommand words name task → IsRead (F.held files.old name) experiment_limit b
         → Says b e.now → before ≤ F.faults files.old → Ends (world words (F.held files.old) before (F.faults files.new) (F.fault_name files.new)
         (O.taken out.old) (O.taken out.new) (O.faults out.old) (O.faults out.new) (length clints.items) (length uarts.items)) result }
     ensures unfailed { result ≢ Status.WriteFault → O.faults out.new ≡ O.faults out.old }
@@ -225,7 +223,7 @@ fn run_checked<F: Files, O: Sink, D: Device>(
     requires few { host_ticks ≤ 1000000 }
     requires placed { placement.now.slots.items ≡ placed e.now }
     requires placement { IsPlacement e.now placement.now.slots.items }
-    ensures ends { (words : List (List ℕ)) (name b : List ℕ) (before : ℕ) → IsRunOf words name host_ticks → IsRead (F.held files.old name) EXPERIMENT_FILE b
+    ensures ends { (words : List (List ℕ)) (name b : List ℕ) (before : ℕ) → IsRunOf words name host_ticks → IsRead (F.held files.old name) experiment_limit b
         → Says b e.now → before ≤ F.faults files.old → Ends (world words (F.held files.old) before (F.faults files.new) (F.fault_name files.new)
         (O.taken out.old) (O.taken out.new) (O.faults out.old) (O.faults out.new) (length clints.items) (length uarts.items)) result }
     ensures unfailed { result ≢ Status.WriteFault → O.faults out.new ≡ O.faults out.old }
@@ -255,7 +253,7 @@ fn run_placed<F: Files, O: Sink, D: Device>(
     requires placed { placement.now.slots.items ≡ placed e.now }
     requires placement { IsPlacement e.now placement.now.slots.items }
     requires fits { Fits e.now placement.now.slots.items }
-    ensures ends { (words : List (List ℕ)) (name b : List ℕ) (before : ℕ) → IsRunOf words name host_ticks → IsRead (F.held files.old name) EXPERIMENT_FILE b
+    ensures ends { (words : List (List ℕ)) (name b : List ℕ) (before : ℕ) → IsRunOf words name host_ticks → IsRead (F.held files.old name) experiment_limit b
         → Says b e.now → before ≤ F.faults files.old → Ends (world words (F.held files.old) before (F.faults files.new) (F.fault_name files.new)
         (O.taken out.old) (O.taken out.new) (O.faults out.old) (O.faults out.new) (length clints.items) (length uarts.items)) result }
     ensures unfailed { result ≢ Status.WriteFault → O.faults out.new ≡ O.faults out.old }

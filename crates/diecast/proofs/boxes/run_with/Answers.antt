@@ -32,8 +32,7 @@ returns-clause-complete g c = λ e may files out.
     c.diecast.ensures.complete e may (boxes_suffice c.guests_are_few.ensures.few _ _ e (length c.loop.clints.items) (length c.loop.uarts.items) clints uarts may) files out
 
 pub returns-clause-planned : goal.returns-clause-planned
-returns-clause-planned g c = λ e asks files.
-    c.diecast.ensures.planned e (record { name = asks.name; bytes = asks.bytes; command = asks.command; told = asks.told; limit = asks.limit; says = asks.says }) files
+returns-clause-planned g c = c.diecast.ensures.planned
 
 pub returns-clause-supplied : goal.returns-clause-supplied
 returns-clause-supplied g c = λ kind wanted had.

@@ -1,16 +1,15 @@
 -- The experiment is what the bytes that were read say.
 use Rattle.std.proofs.Common.{ℕ, List, Option, sym, ap, ◌∙◌, subst, length}
-use Rattle.tb_base.specs.declared.limits.TheConstants.{EXPERIMENT_FILE}
 use Rattle.exp_file.specs.Reading.{reading}
 use Rattle.tb_top.specs.Ends.{Ends, world}
-use Rattle.tb_top.specs.Reads.{IsRead}
+use Rattle.tb_top.specs.Reads.{IsRead, experiment_limit}
 use Rattle.tb_top.proofs.top.run_command.Goals as goal
 
 pub returns-in-Ok-read_experiment-clause-ends : goal.returns-in-Ok-read_experiment-clause-ends
 returns-in-Ok-read_experiment-clause-ends g c = λ words command.
     let name = c.args.command.file.now in
     let same = c.in-Ok.ensures.held in
-    let read = subst (λ (h : List ℕ → Option (List ℕ)). IsRead (h name) EXPERIMENT_FILE c.in-Ok.bytes) (sym same) c.in-Ok.ensures.answer in
+    let read = subst (λ (h : List ℕ → Option (List ℕ)). IsRead (h name) experiment_limit c.in-Ok.bytes) (sym same) c.in-Ok.ensures.answer in
     let says = ap reading (sym c.as_slice.ensures) ∙ c.in-Ok-read_experiment.ensures.reading in
     subst
     (λ (h : List ℕ → Option (List ℕ)).
