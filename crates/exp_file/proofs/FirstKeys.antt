@@ -1,5 +1,5 @@
 -- The first key of a map that a table doesn't know.
-use Rattle.std.proofs.Common.{IfSome, IfNone, option_map, Option, ◌≡◌, ℕ, ◌⊎◌, inl, inr, Bool, true, false, if◌then◌else◌, List, [], ◌∷◌, map, Some, None, Bor, String, Global, string_bytes, subst, refl, sym, ap, ◌∙◌, ◌||◌, Less, nat_cmp}
+use Rattle.std.proofs.Common.{IfSome, IfNone, option_map, Option, ◌≡◌, ℕ, inl, inr, Bool, true, false, if◌then◌else◌, List, [], ◌∷◌, map, Some, None, Bor, String, Global, string_bytes, subst, refl, sym, ap, ◌∙◌, ◌||◌, Less, nat_cmp}
 use Rattle.std.proofs.lemmas.Bool.{false≢true, or_cases, or_right}
 use Rattle.std.proofs.lemmas.Cmp.{nat_list_cmp_total, tied_itself}
 use Rattle.std.proofs.lemmas.Option.{none-some, same_Some}
