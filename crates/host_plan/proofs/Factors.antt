@@ -1,7 +1,6 @@
 -- The least factor, slot by slot, and the first slot that does not fit.
-use Rattle.std.proofs.Common.{◌≡◌, ℕ, suc, ◌<◌, ◌≤◌, ◌+◌, ◌*◌, ◌-◌, Bool, true, false, cond, List, ◌∷◌, length, Some, None, option_map, nat_lt, inl, inr, ◌⊎◌, refl, sym, ap, ◌∙◌, arith, subst}
-use Rattle.std.proofs.lemmas.Bool.{cases_lt}
-use Rattle.std.proofs.lemmas.Bool.Decides.{nat_tests}
+use Rattle.std.proofs.Common.{◌≡◌, ℕ, suc, ◌<◌, ◌≤◌, ◌+◌, ◌*◌, ◌-◌, Bool, true, false, cond, List, ◌∷◌, length, Some, None, option_map, inl, inr, ◌⊎◌, refl, sym, ap, ◌∙◌, arith, subst}
+use Rattle.std.proofs.lemmas.Bool.{cases_lt, lt-ltb, le-ltb}
 use Rattle.std.proofs.lemmas.Grind.{div_ceil_times}
 use Rattle.std.proofs.lemmas.Nat.{mul-le}
 use Rattle.std.proofs.Math.Nat.{mul_comm}
@@ -105,12 +104,6 @@ least_all e p n l some all so = record {
 suc_mul : (m y : ℕ) → (m + 1) * y ≡ m * y + y
 suc_mul m y = grind arith
 
-tested : (m n : ℕ) → m < n → nat_lt m n ≡ true
-tested m n h = grind (arith, nat_tests)
-
-failed : (m n : ℕ) → n ≤ m → nat_lt m n ≡ false
-failed m n h = grind (arith, nat_tests)
-
 pub ceil_fits : (x y : ℕ) → 0 < y → x ≤ y * div_ceil x y
 ceil_fits x y h = let times = div_ceil_times x y h in let flip = mul_comm y (div_ceil x y) in omega (arith, times.0, flip)
 
@@ -127,7 +120,7 @@ pub over_found : (e : Experiment) (p : List ℕ) (o : Overload) → o.slot < len
     → find (is_over e p) (range_with_len o.slot (length e.slots.items - o.slot)) ≡ find (is_over e p) (range_with_len 0 (length e.slots.items))
     → o.need ≡ need e p o.slot → o.have ≡ have e o.slot → o.have < o.need → first_overload e p ≡ Some o
 over_found e p o h rest n v over =
-    let yes : is_over e p o.slot ≡ true = tested (have e o.slot) (need e p o.slot) (omega (arith, n, v, over)) in
+    let yes : is_over e p o.slot ≡ true = lt-ltb (have e o.slot) (need e p o.slot) (omega (arith, n, v, over)) in
     ap (option_map (overload_at e p)) (sym rest ∙ find_step (is_over e p) o.slot (length e.slots.items) h ∙ ap (λ t. cond t (Some o.slot) (find (is_over e p) (range_with_len (o.slot + 1) (length e.slots.items - (o.slot + 1))))) yes)
     ∙ ap Some (ap (λ z. record { slot = o.slot; need = z; have = have e o.slot }) (sym n) ∙ ap (λ z. record { slot = o.slot; need = o.need; have = z }) (sym v))
 
@@ -135,7 +128,7 @@ pub over_next : (e : Experiment) (p : List ℕ) (s : ℕ) → s < length e.slots
     → find (is_over e p) (range_with_len s (length e.slots.items - s)) ≡ find (is_over e p) (range_with_len 0 (length e.slots.items))
     → need e p s ≤ have e s → find (is_over e p) (range_with_len (s + 1) (length e.slots.items - (s + 1))) ≡ find (is_over e p) (range_with_len 0 (length e.slots.items))
 over_next e p s h rest fits =
-    let no : is_over e p s ≡ false = failed (have e s) (need e p s) fits in
+    let no : is_over e p s ≡ false = le-ltb (have e s) (need e p s) fits in
     sym (ap (λ t. cond t (Some s) (find (is_over e p) (range_with_len (s + 1) (length e.slots.items - (s + 1))))) no) ∙ sym (find_step (is_over e p) s (length e.slots.items) h) ∙ rest
 
 pub none_over : (e : Experiment) (p : List ℕ) (s : ℕ) → length e.slots.items ≤ s

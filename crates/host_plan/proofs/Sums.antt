@@ -4,7 +4,7 @@ use Rattle.std.proofs.lemmas.List.{drop_more}
 use Rattle.std.proofs.lemmas.List.Sums.{sum_by-cons, sum_by-set, sum_by-le}
 use Rattle.std.specs.List.{sum, sum_by, filter, zip}
 use Rattle.exp_file.specs.declared.guest_spec.GuestSpec.{GuestSpec}
-use Rattle.host_plan.specs.declared.seat.Seat.{Seat}
+use Rattle.host_plan.specs.declared.assignment.Assignment.{Assignment}
 use Rattle.host_plan.specs.Fits.{rates_on}
 use Rattle.host_plan.specs.Placing.{is_at, need_so_far}
 
@@ -25,16 +25,16 @@ filtered p f (x ∷ xs) =
     let all = sum_by-cons (λ y. cond (p y) (f y) 0) x xs in
     omega (arith, more, rest, all)
 
--- what a seat takes of a slot
-abbrev pub taken : ℕ → Seat → ℕ
+-- what a guest takes of a slot
+abbrev pub taken : ℕ → Assignment → ℕ
 taken s x = cond (is_at s x.home) x.rate 0
 
-pub need-taken : (seats : List Seat) (s : ℕ) → need_so_far seats s ≡ sum_by (taken s) seats
-need-taken seats s = filtered (λ (x : Seat). is_at s x.home) (λ (x : Seat). x.rate) seats
+pub need-taken : (assignments : List Assignment) (s : ℕ) → need_so_far assignments s ≡ sum_by (taken s) assignments
+need-taken assignments s = filtered (λ (x : Assignment). is_at s x.home) (λ (x : Assignment). x.rate) assignments
 
-pub seats_step : (seats : List Seat) (i s : ℕ) (d : Seat) → i < length seats → need_so_far (drop i seats) s ≡ taken s (get_or seats i d) + need_so_far (drop (i + 1) seats) s
-seats_step seats i s d h =
-    ap (λ (z : List Seat). need_so_far z s) (drop_more seats i d h) ∙ one_more (λ (x : Seat). is_at s x.home) (λ (x : Seat). x.rate) (get_or seats i d) (drop (i + 1) seats)
+pub assignments_step : (assignments : List Assignment) (i s : ℕ) (d : Assignment) → i < length assignments → need_so_far (drop i assignments) s ≡ taken s (get_or assignments i d) + need_so_far (drop (i + 1) assignments) s
+assignments_step assignments i s d h =
+    ap (λ (z : List Assignment). need_so_far z s) (drop_more assignments i d h) ∙ one_more (λ (x : Assignment). is_at s x.home) (λ (x : Assignment). x.rate) (get_or assignments i d) (drop (i + 1) assignments)
 
 pub guests_step : (gs : List GuestSpec) (p : List ℕ) (i s : ℕ) (g : GuestSpec) (h : ℕ) → i < length gs → i < length p
     → sum (rates_on (drop i gs) (drop i p) s) ≡ cond (get_or p i h == s) (get_or gs i g).rate 0 + sum (rates_on (drop (i + 1) gs) (drop (i + 1) p) s)
@@ -47,16 +47,16 @@ cond-le : (t : Bool) (n : ℕ) → n ≤ 100000 → cond t n 0 ≤ 100000
 cond-le true n h = h
 cond-le false n h = omega arith
 
-taken-le : (s : ℕ) (x : Seat) → x.rate ≤ 100000 → taken s x ≤ 100000
+taken-le : (s : ℕ) (x : Assignment) → x.rate ≤ 100000 → taken s x ≤ 100000
 taken-le s x h = cond-le (is_at s x.home) x.rate h
 
-pub need-le : (seats : List Seat) (s : ℕ) → length seats ≤ 32 → All (λ x. x.rate ≤ 100000) seats → need_so_far seats s ≤ 3200000
-need-le seats s few rates =
-    let all : sum_by (taken s) seats ≤ length seats * 100000 = sum_by-le (taken s) 100000 seats (λ k d h. taken-le s (get_or seats k d) (rates k d h)) in
-    omega (arith, all, need-taken seats s)
+pub need-le : (assignments : List Assignment) (s : ℕ) → length assignments ≤ 32 → All (λ x. x.rate ≤ 100000) assignments → need_so_far assignments s ≤ 3200000
+need-le assignments s few rates =
+    let all : sum_by (taken s) assignments ≤ length assignments * 100000 = sum_by-le (taken s) 100000 assignments (λ k d h. taken-le s (get_or assignments k d) (rates k d h)) in
+    omega (arith, all, need-taken assignments s)
 
 -- one guest more on a slot
-pub need-set : (seats : List Seat) (i s : ℕ) (y d : Seat) → i < length seats → need_so_far (set seats i y) s + taken s (get_or seats i d) ≡ need_so_far seats s + taken s y
-need-set seats i s y d h =
-    let all = sum_by-set (taken s) seats i y d h in
-    omega (arith, all, need-taken seats s, need-taken (set seats i y) s)
+pub need-set : (assignments : List Assignment) (i s : ℕ) (y d : Assignment) → i < length assignments → need_so_far (set assignments i y) s + taken s (get_or assignments i d) ≡ need_so_far assignments s + taken s y
+need-set assignments i s y d h =
+    let all = sum_by-set (taken s) assignments i y d h in
+    omega (arith, all, need-taken assignments s, need-taken (set assignments i y) s)

@@ -1,14 +1,14 @@
 //! Placement of guests on slots: the rule by which they are placed, and whether a placement fits.
 #![tactic(auto)]
 
+mod assignment;
+mod assignments;
+mod fill;
 mod least;
-mod load;
 mod need;
 mod overload;
 mod placement;
 mod planner;
-mod seat;
-mod seats;
 
 pub use least::Least;
 pub use need::{check, least_factor, slot_have, slot_need};

@@ -1,17 +1,10 @@
 -- What a sink has taken after one more line.
-use Rattle.std.proofs.Common.{◌≡◌, ℕ, ◌+◌, ◌<◌, List, [], ◌∷◌, ◌++◌, length, take, drop, get_or, Option, None, Some, refl, sym, ap, ◌∙◌, subst, append_assoc, append-nil}
+use Rattle.std.proofs.Common.{◌≡◌, ℕ, ◌+◌, ◌<◌, List, [], ◌∷◌, ◌++◌, length, take, drop, get_or, Option, sym, ap, ◌∙◌, subst, append-nil}
 use Rattle.std.proofs.lemmas.List.{take_more, take-append-drop}
 use Rattle.std.proofs.lemmas.List.Folds.{concat-append}
 use Rattle.std.specs.List.{concat}
 use Rattle.tb_io.specs.Puts.{Takes, TakesPart}
-use Rattle.tb_io.proofs.Parts.{takes_more}
-
-pub takes_none : (a : Option (List ℕ)) → Takes a a []
-takes_none None = tt
-takes_none (Some o) = ap Some (sym (append-nil o))
-
-pub part_none : (a : Option (List ℕ)) (x : List ℕ) → TakesPart a a x
-part_none a x = ([], record { rest = x; whole = refl }, takes_none a)
+use Rattle.tb_io.proofs.Parts.{takes_more, part_more, part_longer}
 
 -- the first i + 1 lines
 lines_more : (xs : List (List ℕ)) (i : ℕ) (x : List ℕ) → i < length xs → x ≡ get_or xs i x → concat (take (i + 1) xs) ≡ concat (take i xs) ++ x
@@ -27,11 +20,6 @@ line_taken a b c xs i x h same before then =
 pub line_cut : (a b c : Option (List ℕ)) (xs : List (List ℕ)) (i : ℕ) (x : List ℕ) → i < length xs → x ≡ get_or xs i x
     → Takes a b (concat (take i xs)) → TakesPart b c x → TakesPart a c (concat xs)
 line_cut a b c xs i x h same before then =
-    let first = concat (take i xs) in
-    let others = concat (drop (i + 1) xs) in
-    let split : concat xs ≡ concat (take (i + 1) xs) ++ others =
-    ap concat (sym (take-append-drop (i + 1) xs)) ∙ concat-append (take (i + 1) xs) (drop (i + 1) xs) in
-    let whole : concat xs ≡ (first ++ then.0) ++ (then.1.rest ++ others) =
-    split ∙ ap (λ (z : List ℕ). z ++ others) (lines_more xs i x h same ∙ ap (λ (z : List ℕ). first ++ z) then.1.whole ∙ sym (append_assoc first then.0 then.1.rest))
-    ∙ append_assoc (first ++ then.0) then.1.rest others in
-    (first ++ then.0, record { rest = then.1.rest ++ others; whole = whole }, takes_more a b c first then.0 before then.2)
+    let some : TakesPart a c (concat (take (i + 1) xs)) = subst (λ (z : List ℕ). TakesPart a c z) (sym (lines_more xs i x h same)) (part_more a b c (concat (take i xs)) x before then) in
+    let all : concat (take (i + 1) xs) ++ concat (drop (i + 1) xs) ≡ concat xs = sym (concat-append (take (i + 1) xs) (drop (i + 1) xs)) ∙ ap concat (take-append-drop (i + 1) xs) in
+    subst (λ (z : List ℕ). TakesPart a c z) all (part_longer a c (concat (take (i + 1) xs)) (concat (drop (i + 1) xs)) some)

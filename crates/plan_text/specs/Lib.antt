@@ -1,4 +1,3 @@
 -- Claims: all of these.
-pub mod Causes
 pub mod Puts
 pub mod Texts

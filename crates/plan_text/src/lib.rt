@@ -3,8 +3,6 @@
 
 mod lines;
 mod plan;
-mod plan_err;
 mod put;
 
-pub use plan_err::PlanErr;
 pub use put::put_plan;

@@ -1,6 +1,5 @@
 //! The lines of a plan.
-ghost use Rattle.std.specs.Prelude.{◌≡◌, ◌++◌, ◌<◌, List, ℕ, Option, length, codes, OnOk, IfOk};
-ghost use Rattle.std.specs.Fmt.{decimal};
+ghost use Rattle.std.specs.Prelude.{◌≡◌, ◌++◌, ◌<◌, List, ℕ, Option, length, codes, IfOk};
 ghost use Rattle.exp_file.specs.WellFormed.{IsWellFormed};
 ghost use Rattle.host_plan.specs.Fits.{IsPlacement, Tells};
 ghost use Rattle.host_plan.specs.declared.overload.Overload.{Overload};
@@ -10,25 +9,16 @@ use exp_file::{Experiment, GuestSpec};
 use host_plan::{Least, Overload, Placement, slot_have, slot_need};
 use std::alloc::Global;
 use tb_base::{Bytes, NoMemory};
-use tb_text::put_dec;
-
-/// Adds a word and a number to a line.
-fn add(line: &mut Bytes, word: &[u8], n: u64) -> Result<(), NoMemory>
-    ensures { OnOk result (line.new ≡ line.old ++ word.now ++ decimal n) }
-{
-    line.push_slice(word)?;
-    put_dec(line, n)?;
-    Ok(())
-}
+use tb_text::put_field;
 
 /// The first line: the factor, and how many slots and guests there are.
 pub(crate) fn head_line(alloc: Global, e: &Experiment) -> Result<Bytes, NoMemory>
     ensures { IfOk result (λ line. line ≡ head_line e.now) }
 {
     let mut line = Bytes::new(alloc);
-    add(&mut line, b"plan factor ", e.factor)?;
-    add(&mut line, b" slots ", e.slots.len() as u64)?;
-    add(&mut line, b" guests ", e.guests.len() as u64)?;
+    put_field(&mut line, b"plan factor ", e.factor)?;
+    put_field(&mut line, b" slots ", e.slots.len() as u64)?;
+    put_field(&mut line, b" guests ", e.guests.len() as u64)?;
     line.push_slice(b"\n")?;
     Ok(line)
 }
@@ -46,9 +36,9 @@ pub(crate) fn slot_line(
     ensures { IfOk result (λ line. line ≡ slot_line e.now p.now.slots.items slot) }
 {
     let mut line = Bytes::new(alloc);
-    add(&mut line, b"slot ", u64::from(slot))?;
-    add(&mut line, b" need ", slot_need(e, p, slot))?;
-    add(&mut line, b" have ", slot_have(e, slot))?;
+    put_field(&mut line, b"slot ", u64::from(slot))?;
+    put_field(&mut line, b" need ", slot_need(e, p, slot))?;
+    put_field(&mut line, b" have ", slot_have(e, slot))?;
     line.push_slice(b"\n")?;
     Ok(line)
 }
@@ -63,11 +53,11 @@ pub(crate) fn guest_line(
     ensures { IfOk result (λ line. line ≡ guest_line index guest.now home) }
 {
     let mut line = Bytes::new(alloc);
-    add(&mut line, b"guest ", u64::from(index))?;
+    put_field(&mut line, b"guest ", u64::from(index))?;
     line.push_slice(b" ")?;
     line.push_slice(guest.name.as_slice())?;
-    add(&mut line, b" slot ", u64::from(home))?;
-    add(&mut line, b" rate ", u64::from(guest.rate))?;
+    put_field(&mut line, b" slot ", u64::from(home))?;
+    put_field(&mut line, b" rate ", u64::from(guest.rate))?;
     line.push_slice(b"\n")?;
     Ok(line)
 }
@@ -77,8 +67,8 @@ pub(crate) fn least_line(alloc: Global, least: Least) -> Result<Bytes, NoMemory>
     ensures { IfOk result (λ line. line ≡ least_line least) }
 {
     let mut line = Bytes::new(alloc);
-    add(&mut line, b"least ", least.factor)?;
-    add(&mut line, b" slot ", u64::from(least.slot))?;
+    put_field(&mut line, b"least ", least.factor)?;
+    put_field(&mut line, b" slot ", u64::from(least.slot))?;
     line.push_slice(b"\n")?;
     Ok(line)
 }
@@ -91,9 +81,9 @@ pub(crate) fn last_line(alloc: Global, fit: Result<(), Overload>) -> Result<Byte
     match fit {
         Ok(()) => line.push_slice(b"fits\n")?,
         Err(over) => {
-            add(&mut line, b"over ", u64::from(over.slot))?;
-            add(&mut line, b" need ", over.need)?;
-            add(&mut line, b" have ", over.have)?;
+            put_field(&mut line, b"over ", u64::from(over.slot))?;
+            put_field(&mut line, b" need ", over.need)?;
+            put_field(&mut line, b" have ", over.have)?;
             line.push_slice(b"\n")?;
         }
     }

@@ -23,14 +23,8 @@ fn add_slots(
     ensures { OnOk result (lines.new.items ≡ lines.old.items ++ map (slot_line e.now p.now.slots.items) (range_with_len 0 (length e.now.slots.items))) }
 {
     for slot in 0..e.slots.len() as u32 {
-        let line = match slot_line(alloc, e, p, slot) {
-            Ok(line) => line,
-            Err(_) => return Err(NoMemory),
-        };
-        match lines.push(line) {
-            Ok(()) => (),
-            Err(_) => return Err(NoMemory),
-        }
+        let line = slot_line(alloc, e, p, slot)?;
+        lines.push(line)?;
     }
     Ok(())
 }
@@ -49,14 +43,8 @@ fn add_guests(
     let guests = e.guests.as_slice();
     let homes = p.slots.as_slice();
     for i in 0..guests.len() {
-        let line = match guest_line(alloc, i as u32, &guests[i], homes[i]) {
-            Ok(line) => line,
-            Err(_) => return Err(NoMemory),
-        };
-        match lines.push(line) {
-            Ok(()) => (),
-            Err(_) => return Err(NoMemory),
-        }
+        let line = guest_line(alloc, i as u32, &guests[i], homes[i])?;
+        lines.push(line)?;
     }
     Ok(())
 }

@@ -2,4 +2,4 @@ use Rattle.host_plan.proofs.Firsts.{IsRoomiestBefore}
 use Rattle.host_plan.proofs.planner.roomiest.Given as goal
 
 abbrev pub invariant-loop-s : goal.invariant-loop-s
-invariant-loop-s l = IsRoomiestBefore l.loads l.s l.best
+invariant-loop-s l = IsRoomiestBefore l.fills l.s l.best

@@ -1,7 +1,7 @@
 use Rattle.std.proofs.Common.{◌≡◌, ◌++◌}
 use Rattle.std.specs.List.{zip}
 use Rattle.plan_text.specs.Texts.{guest_lines}
-use Rattle.plan_text.proofs.Rows.{from}
+use Rattle.plan_text.proofs.LineSteps.{from}
 use Rattle.plan_text.proofs.plan.add_guests.Given as goal
 
 abbrev pub invariant-loop-i : goal.invariant-loop-i

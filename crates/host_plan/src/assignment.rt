@@ -1,8 +1,8 @@
-//! A guest that is to be placed.
+//! Assignments of guests to slots.
 
 /// A guest's rate, and the slot that it has so far.
 #[derive(Clone, Copy)]
-pub struct Seat {
+pub struct Assignment {
     pub rate: u32,
     pub home: Option<u32>,
 }

@@ -2,7 +2,7 @@
 
 /// What the guests placed so far need of a slot, and what it has, in units.
 #[derive(Clone, Copy)]
-pub struct Load {
+pub struct Fill {
     pub need: u64,
     pub have: u64,
 }

@@ -1,7 +1,0 @@
-use Rattle.host_plan.proofs.Settled.{pushed_load}
-use Rattle.host_plan.proofs.seats.loads_of.Goals as goal
-
-pub loop-slot-preserved : goal.loop-slot-preserved
-loop-slot-preserved c =
-    pushed_load c.args.e.now c.args.seats.now c.loop-slot.loads.items c.push.new.self.items c.loop-slot.slot (record { need = c.need_so_far.result; have = c.slot_have.result })
-    c.loop-slot.invariant c.need_so_far.ensures.need c.slot_have.ensures.have c.in-Ok.ensures.items
