@@ -1,4 +1,4 @@
-use Rattle.std.proofs.Common.{◌≡◌, refl, ◌∙◌, ap, slice_get, Bool, true, false}
+use Rattle.std.proofs.Common.{◌≡◌, refl, ◌∙◌, ap, slice_get, false}
 use Rattle.lookahead_core.specs.Links.{wires_in}
 use Rattle.lookahead_core.specs.Seats.{begun_at}
 use Rattle.lookahead_core.proofs.Booleans.{true_false}
