@@ -9,7 +9,7 @@ use Rattle.trace_rec.specs.declared.rec.Rec.{Rec}
 use Rattle.host_journal.specs.Entries.{Entry, Host, Slot, Ran, End}
 use Rattle.host_journal.specs.Printed.{entry_recs, recs_of, entry_units, units_of, count_after, count_of, is_past, up_to_tick}
 use Rattle.host_journal.specs.declared.quantum.Quantum.{Quantum}
-use Rattle.slot_sched.specs.Legal.{Rules, At, MayCome, IsLegal, IsLegalFrom, IsComplete, IsQuantum, after, after_all, after_quantum, count_at, start}
+use Rattle.slot_sched.specs.Legal.{Rules, At, MayCome, IsFull, IsLegal, IsLegalFrom, IsComplete, IsQuantum, after, after_all, after_quantum, count_at, start}
 use Rattle.slot_sched.specs.Told.{Tells}
 
 -- a choice by whether two numbers are the same
@@ -100,32 +100,26 @@ tells r es g empty legal =
     }
 
 -- a host tick is left where each guest has done its share
-leaves : (r : Rules) (at : At) (g : ℕ) → g < r.guests → MayCome r at (Host (at.host + 1)) → at.host / r.factor ≤ count_at r at g
-leaves r at g lt may = elim (cases_lt 0 at.host) [
-  | inl some ↦ (may.4 some).kept_up g lt
+share_done : (r : Rules) (at : At) (g : ℕ) → g < r.guests → (1 ≤ at.host → IsFull r at) → at.host / r.factor ≤ count_at r at g
+share_done r at g lt full = elim (cases_lt 0 at.host) [
+  | inl some ↦ (full some).kept_up g lt
   | inr none ↦ let zero_ticks : at.host ≡ 0 = omega (arith, none) in subst (λ (t : ℕ). t / r.factor ≤ count_at r at g) (sym zero_ticks) (omega arith)
 ]
 
-ends : (r : Rules) (at : At) (g : ℕ) → g < r.guests → MayCome r at End → at.host / r.factor ≤ count_at r at g
-ends r at g lt may = elim (cases_lt 0 at.host) [
-  | inl some ↦ (may.2 some).kept_up g lt
-  | inr none ↦ let zero_ticks : at.host ≡ 0 = omega (arith, none) in subst (λ (t : ℕ). t / r.factor ≤ count_at r at g) (sym zero_ticks) (omega arith)
-]
-
--- from a place within the host ticks up to t on, where the end of host tick t stands among the entries
+-- from within the host ticks up to t on, where the end of host tick t stands among the entries
 share_told : (r : Rules) (es : List Entry) (at : At) (t g : ℕ) → g < r.guests → IsLegalFrom r at es → at.host ≤ t → t ≤ r.host_ticks → list_any (is_past t) es ≡ true
     → t / r.factor ≤ count_at r (after_all at (up_to_tick t es)) g
 share_told r [] at t g lt legal early few past = absurd (cc past)
 share_told r (Slot s ∷ es) at t g lt legal early few past = share_told r es (after at (Slot s)) t g lt legal.1 early few past
 share_told r (Ran q recs ∷ es) at t g lt legal early few past = share_told r es (after at (Ran q recs)) t g lt legal.1 early few past
 share_told r (End ∷ es) at t g lt legal early few past =
-    let here : at.host ≡ t = omega (arith, legal.0.1, early, few) in subst (λ (k : ℕ). k / r.factor ≤ count_at r at g) here (ends r at g lt legal.0)
+    let here : at.host ≡ t = omega (arith, legal.0.1, early, few) in subst (λ (k : ℕ). k / r.factor ≤ count_at r at g) here (share_done r at g lt legal.0.2)
 share_told r (Host u ∷ es) at t g lt legal early few past = elim (cases_eq u (t + 1)) [
   | inl same ↦
       let here : at.host ≡ t = omega (arith, legal.0.1, same) in
       let next : MayCome r at (Host (at.host + 1)) = subst (λ (k : ℕ). MayCome r at (Host k)) legal.0.1 legal.0 in
       subst (λ (l : List Entry). t / r.factor ≤ count_at r (after_all at l) g) (sym (if_same u (t + 1) [] (Host u ∷ up_to_tick t es) same))
-      (subst (λ (k : ℕ). k / r.factor ≤ count_at r at g) here (leaves r at g lt next))
+      (subst (λ (k : ℕ). k / r.factor ≤ count_at r at g) here (share_done r at g lt next.4))
   | inr other ↦
       let still : u ≤ t = omega (arith, legal.0.1, early, other) in
       subst (λ (l : List Entry). t / r.factor ≤ count_at r (after_all at l) g) (sym (if_not u (t + 1) [] (Host u ∷ up_to_tick t es) other))
