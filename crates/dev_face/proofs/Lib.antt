@@ -1,1 +1,3 @@
+pub mod BlkQuiet
+pub mod NetQuiet
 pub mod Skipping
