@@ -5,7 +5,7 @@ use Rattle.std.proofs.lemmas.Bool.{cond-false, not-true}
 use Rattle.std.proofs.lemmas.Bool.Decides.{nat_tests}
 use Rattle.virtio_regs.specs.Registers.{is_live}
 use Rattle.dev_face.specs.BlkStates.{FlightState, ActiveState, BlkState}
-use Rattle.dev_face.specs.BlkCalls.{Work, Served, BlkBegun, BlkEnded, served, work_of, after_served, begin_active, blk_begin, first_finish, blk_next, end_active, blk_end, idle_with, blk_end_idle}
+use Rattle.dev_face.specs.BlkCalls.{Work, served, work_of, after_served, begin_active, blk_begin, first_finish, blk_next, end_active, blk_end, idle_with, blk_end_idle}
 
 not_yet : (finish now : ℕ) → now < finish → nat_le finish now ≡ false
 not_yet finish now h = grind (arith, nat_tests)

@@ -1,6 +1,6 @@
 -- A nic does nothing in a tick in which no frame arrives and none that waits can be delivered, and at the end of one in which
 -- its queue is not notified.
-use Rattle.std.proofs.Common.{◌≡◌, ℕ, ◌+◌, ◌<◌, ◌≤◌, Bool, true, false, cond, not, ◌&&◌, Option, Some, None, List, [], ◌∷◌, length, refl, sym, ◌∙◌, ap, arith}
+use Rattle.std.proofs.Common.{◌≡◌, ℕ, ◌+◌, ◌<◌, ◌≤◌, Bool, true, false, cond, ◌&&◌, Option, Some, None, List, [], ◌∷◌, length, refl, sym, ◌∙◌, ap, arith}
 use Rattle.std.specs.Prelude.{IfSome, nat_lt}
 use Rattle.std.proofs.lemmas.Bool.{cond-false, not-true}
 use Rattle.std.proofs.lemmas.Bool.Decides.{nat_tests}
@@ -8,7 +8,7 @@ use Rattle.virtio_regs.specs.Registers.{is_live}
 use Rattle.split_queue.specs.Queues.{Queue}
 use Rattle.dev_face.specs.Queues.{Put, put_with}
 use Rattle.dev_face.specs.NetStates.{NetState}
-use Rattle.dev_face.specs.NetCalls.{Joined, Delivered, NetBegun, NetEnded, joined, delivered, after_delivered, deliver_to, recs_before, begin_joined, net_begin, delivers, net_next, send_from, net_end, sends_nothing, net_end_idle}
+use Rattle.dev_face.specs.NetCalls.{joined, delivered, after_delivered, deliver_to, recs_before, begin_joined, net_begin, delivers, net_next, send_from, net_end, sends_nothing, net_end_idle}
 
 -- nothing waits, where what is due next is later than the next tick
 delivers_not : (b : Bool) (coming now : ℕ) → coming ≤ now → IfSome (cond b (Some coming) None) (λ due. now < due) → b ≡ false

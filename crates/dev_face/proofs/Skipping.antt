@@ -5,7 +5,7 @@ use Rattle.std.proofs.lemmas.Bool.Decides.{nat_tests}
 use Rattle.dev_face.specs.States.{DevState, Blank, ClintAt, UartAt, BlkAt, NetAt, IsSetUp, IsComing, coming_of, at_coming}
 use Rattle.dev_face.specs.BlkCalls.{BlkBegun, BlkEnded}
 use Rattle.dev_face.specs.NetCalls.{NetBegun, NetEnded}
-use Rattle.dev_face.specs.Calls.{Begun, Ended, dev_begin, dev_end, dev_lines, dev_next, dev_end_idle}
+use Rattle.dev_face.specs.Calls.{dev_begin, dev_end, dev_lines, dev_next, dev_end_idle}
 use Rattle.dev_face.proofs.BlkQuiet.{blk_begun, blk_ended}
 use Rattle.dev_face.proofs.NetQuiet.{net_begun, net_ended}
 

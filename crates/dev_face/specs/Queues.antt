@@ -1,5 +1,5 @@
 -- What virtio devices do to their registers and queues (virtio 1.2, sections 2.7 and 4.2.2).
-use Rattle.std.specs.Prelude.{ℕ, ◌%◌, ◌==◌, nat_lt, if◌then◌else◌, Bool, false, Option, Some, None, List, replicate}
+use Rattle.std.specs.Prelude.{ℕ, ◌%◌, ◌==◌, nat_lt, if◌then◌else◌, Bool, false, List, replicate}
 use Rattle.tb_base.specs.declared.width.Width.{Width}
 use Rattle.tb_base.specs.declared.width.Width.TheVariants.{Byte, Half, Word}
 use Rattle.tb_base.specs.declared.why.Why.{Why}
