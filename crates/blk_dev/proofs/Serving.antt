@@ -1,7 +1,7 @@
 -- Requests complete one by one: what is left of serving them all is serving the others.
-use Rattle.std.proofs.Common.{◌≡◌, ℕ, ◌*◌, ◌++◌, ◌∷◌, [], List, true, nat_le, length, refl, sym, ◌∙◌, ap, subst, arith, append_assoc, min, ◌≤◌, ◌<◌}
+use Rattle.std.proofs.Common.{◌≡◌, ℕ, ◌*◌, ◌++◌, ◌∷◌, [], List, true, nat_le, length, refl, sym, ◌∙◌, ap, subst, arith, append_assoc, ◌≤◌, ◌<◌}
 use Rattle.std.specs.Prelude.{IfSome}
-use Rattle.std.proofs.lemmas.List.{append-nil, take_all, take-append-le, length-take}
+use Rattle.std.proofs.lemmas.List.{append-nil}
 use Rattle.std.proofs.lemmas.Bool.{cond-true}
 use Rattle.std.proofs.lemmas.Bool.Decides.{nat_tests}
 use Rattle.trace_rec.specs.declared.rec.Rec.{Rec}
@@ -11,6 +11,7 @@ use Rattle.dev_face.specs.States.{StaysInFront}
 use Rattle.dev_face.specs.BlkStates.{FlightState, FlightsFit, RingsUsed}
 use Rattle.dev_face.specs.BlkCalls.{Work, Served, served, completed, done_rec, first_finish, with_rec}
 use Rattle.dev_face.proofs.BlkQuiet.{served_none}
+use Rattle.dev_face.proofs.Fronts.{front_same, front_more}
 
 pub record Along (now disk sectors n : ℕ) (w0 w : Work) (fs0 fs : List FlightState) (log0 log : List Rec) : Type 0 where
   pub work : (served now disk sectors w0 fs0).work ≡ (served now disk sectors w fs).work
@@ -21,16 +22,6 @@ pub record Along (now disk sectors n : ℕ) (w0 w : Work) (fs0 fs : List FlightS
   pub size : length w.ram ≡ n
   pub disk_size : length w.content ≡ 512 * sectors
   pub front : StaysInFront log0 log
-
--- a list stands in front of itself
-pub front_same : {A : Type 0} (xs : List A) → StaysInFront xs xs
-front_same xs = take_all (length xs) xs (omega arith)
-
--- and in front of itself with more at its end
-pub front_more : {A : Type 0} (xs ys : List A) (y : A) → StaysInFront xs ys → StaysInFront xs (ys ++ y ∷ [])
-front_more xs ys y e =
-    let counts : min (length xs) (length ys) ≡ length xs = sym (length-take (length xs) ys) ∙ ap length e in
-    take-append-le (length xs) ys (y ∷ []) (omega (arith, counts)) ∙ e
 
 pub along_start : (now disk sectors n : ℕ) (w : Work) (fs : List FlightState) (log : List Rec) → FlightsFit n fs → RingsUsed n w.queue fs → length w.ram ≡ n → length w.content ≡ 512 * sectors → Along now disk sectors n w w fs fs log log
 along_start now disk sectors n w fs log r q s d = record { work = refl; left = refl; recs = refl; ranges = r; rings = q; size = s; disk_size = d; front = front_same log }
