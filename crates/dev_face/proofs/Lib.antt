@@ -1,1 +1,4 @@
+pub mod BlkQuiet
+pub mod Fronts
+pub mod NetQuiet
 pub mod Skipping

@@ -1,10 +1,10 @@
 -- Ticks of a list of devices that may be passed in one go.
-use Rattle.std.proofs.Common.{◌≡◌, ℕ, ◌+◌, ◌<◌, ◌≤◌, true, ◌&&◌, map, take, length, get_or, All, Option, Some, None, List, [], ◌∷◌, ◌++◌, refl, sym, ◌∙◌, ap, subst, arith}
+use Rattle.std.proofs.Common.{◌≡◌, ℕ, ◌+◌, ◌<◌, ◌≤◌, true, false, ◌&&◌, map, take, length, get_or, All, Option, Some, None, List, [], ◌∷◌, ◌++◌, refl, sym, ◌∙◌, ap, subst, arith}
 use Rattle.std.specs.Prelude.{IfSome}
 use Rattle.std.specs.List.{list_all}
 use Rattle.std.proofs.lemmas.Bool.{and_parts}
 use Rattle.std.proofs.lemmas.List.{length-map, take_more}
-use Rattle.std.proofs.lemmas.List.Folds.{list_all_more}
+use Rattle.std.proofs.lemmas.List.Folds.{list_all_more, list_all_at}
 use Rattle.std.proofs.lemmas.List.Elements.{All-head, All-tail, All-cons, All-nil}
 use Rattle.dev_face.specs.States.{DevState, IsSetUp, IsComing, at_coming}
 use Rattle.dev_face.specs.Calls.{Begun, Ended, MaySkip, dev_lines, dev_next, dev_end_idle}
@@ -51,6 +51,11 @@ idle_more f xs i x h e so idle =
     list_all_more dev_end_idle (map f xs) i (f x) len
     ∙ ap (λ b. b && dev_end_idle (get_or (map f xs) i (f x))) so
     ∙ ap dev_end_idle (state_there f xs i x (f x) h e) ∙ idle
+
+pub idle_not : {B : Type 0} (f : B → DevState) (xs : List B) (i : ℕ) (x : B) → i < length xs → x ≡ get_or xs i x → dev_end_idle (f x) ≡ false → list_all dev_end_idle (map f xs) ≡ false
+idle_not f xs i x h e busy =
+    let len : i < length (map f xs) = simp length-map h in
+    list_all_at dev_end_idle (map f xs) i (f x) len (ap dev_end_idle (state_there f xs i x (f x) h e) ∙ busy)
 
 -- what is below the least is below each
 below : (t k : ℕ) (o : Option ℕ) → t < least_of o k → IfSome o (λ due. t < due) × (t < k)

@@ -1,0 +1,15 @@
+//! A disk, as a virtio block device (virtio 1.2, section 5.2).
+#![tactic(auto)]
+
+mod active;
+mod admit;
+mod blk;
+mod complete;
+mod disk;
+mod flight;
+mod registers;
+mod request;
+mod serve;
+mod ticks;
+
+pub use blk::Blk;
