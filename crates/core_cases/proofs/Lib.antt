@@ -1,2 +1,3 @@
 mod Alarm
+mod Shares
 mod Still

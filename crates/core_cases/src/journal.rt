@@ -9,16 +9,24 @@ use tb_base::{ItemList, Name};
 use tb_io::MemSink;
 use trace_rec::{Log, Rec, What};
 
-/// One guest at half speed on one slot, for two host ticks.
-fn keeper(alloc: Global) -> Result<JournalKeep, Fail>
-    ensures { IfOk result (λ keep. 0 < length (head_of keep).names.items) }
+/// The keeper of a run of so many host ticks, of so many guests on so many slots.
+pub(crate) fn keeper(
+    alloc: Global,
+    factor: u64,
+    slots: u32,
+    guests: u32,
+    host_ticks: u64,
+) -> Result<JournalKeep, Fail>
+    ensures { IfOk result (λ keep. length (head_of keep).names.items ≡ guests) }
 {
     let mut names = ItemList::new(alloc);
-    names.push(Name::from_text(alloc, "a")?)?;
+    for _ in 0..guests {
+        names.push(Name::from_text(alloc, "a")?)?;
+    }
     let head = Head {
-        factor: 2,
-        slots: 1,
-        host_ticks: 2,
+        factor,
+        slots,
+        host_ticks,
         names,
     };
     Ok(JournalKeep::new(alloc, head)?)
@@ -91,7 +99,7 @@ end 2\n";
     let none = Log::new(rt.alloc());
     let recs = jumps(rt.alloc())?;
     let mut out = MemSink::new(rt.alloc(), 1000)?;
-    let mut keep = keeper(rt.alloc())?;
+    let mut keep = keeper(rt.alloc(), 2, 1, 1, 2)?;
     put_run(&mut keep, &mut out, &none, &recs)?;
     assert_eq!(rt; out.bytes(), wanted.as_slice());
     Ok(())
@@ -101,7 +109,7 @@ end 2\n";
 fn a_failed_put_is_the_last(rt: HostRuntime) -> Result<(), Fail> {
     let mut out = MemSink::new(rt.alloc(), 1000)?;
     out.fail_put(3, 3)?;
-    let mut keep = keeper(rt.alloc())?;
+    let mut keep = keeper(rt.alloc(), 2, 1, 1, 2)?;
     keep.start(&mut out)?;
     let none = Log::new(rt.alloc());
     assert_eq!(rt;
