@@ -1,5 +1,5 @@
 -- Two writes into RAM, the second behind the first.
-use Rattle.std.proofs.Common.{◌≡◌, ℕ, ◌≤◌, ◌+◌, ◌-◌, List, ◌++◌, length, take, drop, slice_range, replicate, ◌==◌, ◌<◌, zero, suc, Bool, true, false, if◌then◌else◌, refl, sym, ap, ◌∙◌, arith, append_assoc, length-append}
+use Rattle.std.proofs.Common.{◌≡◌, ℕ, ◌≤◌, ◌+◌, ◌-◌, List, ◌++◌, length, take, drop, slice_range, replicate, ◌==◌, ◌<◌, zero, suc, true, false, if◌then◌else◌, refl, sym, ap, ◌∙◌, arith}
 use Rattle.std.proofs.lemmas.List.{length-take-le, length-drop, replicate-append-replicate, length-replicate}
 use Rattle.byte_pages.proofs.Writes.{two_writes, with_none}
 use Rattle.guest_ram.specs.Bytes.{ram_base, ram_after, IsInRam}
