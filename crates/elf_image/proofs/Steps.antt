@@ -1,6 +1,6 @@
 -- The segments of a file, one at a time.
 use Rattle.std.proofs.Common.{◌≡◌, ◌==◌, ℕ, suc, ◌<◌, ◌≤◌, ◌+◌, ◌-◌, ◌&&◌, ◌||◌, not, nat_lt, Bool, true, false, List, length, Ok, Err, Result, if◌then◌else◌, inl, inr, refl, sym, ap, ◌∙◌, arith, subst}
-use Rattle.std.proofs.lemmas.Bool.{cases_lt, false≢true}
+use Rattle.std.proofs.lemmas.Bool.{cases_lt, false≢true, or_parts, ltb-false}
 use Rattle.std.proofs.lemmas.Bool.Decides.{nat_tests}
 use Rattle.guest_ram.specs.Bytes.{ram_base}
 use Rattle.elf_image.specs.declared.fault.ElfFault.{ElfFault}
@@ -60,17 +60,10 @@ if_passed false false f g h = (refl, refl)
 if_passed false true f g h = absurd (cc)
 if_passed true u f g h = absurd (cc)
 
-or_no : (a b : Bool) → (a || b) ≡ false → (a ≡ false) × (b ≡ false)
-or_no false b h = (refl, h)
-or_no true b h = absurd (false≢true (sym h))
-
 inside : (zero_size ram : Bool) → (not zero_size && not ram) ≡ false → zero_size ≡ false → ram ≡ true
 inside false true h e = refl
 inside false false h e = absurd (false≢true (sym h))
 inside true ram h e = absurd (false≢true (sym e))
-
-at_least : (m n : ℕ) → nat_lt m n ≡ false → n ≤ m
-at_least m n h = grind (arith, nat_tests)
 
 some_size : (n : ℕ) → 0 < n → (n == 0) ≡ false
 some_size n h = grind (arith, nat_tests)
@@ -81,10 +74,10 @@ in_range size addr len h = (grind (arith, nat_tests), grind (arith, nat_tests))
 pub placeable : (b ram : List ℕ) (n : ℕ) (s : Segment) → check_at b (length ram) n s ≡ Ok tt → IsPlaceable (length b) ram s
 placeable b ram n s h =
     let tests = if_passed (nat_lt (length b) (s.offset + s.filesz) || nat_lt s.memsz s.filesz) (not (s.memsz == 0) && not (in_ram (length ram) s.paddr s.memsz)) _ _ h in
-    let file = or_no (nat_lt (length b) (s.offset + s.filesz)) (nat_lt s.memsz s.filesz) tests.0 in
+    let file = or_parts (nat_lt (length b) (s.offset + s.filesz)) (nat_lt s.memsz s.filesz) tests.0 in
     record {
-      file = at_least (length b) (s.offset + s.filesz) file.0;
-      memory = at_least s.memsz s.filesz file.1;
+      file = ltb-false (length b) (s.offset + s.filesz) file.0;
+      memory = ltb-false s.memsz s.filesz file.1;
       low = λ some. (in_range (length ram) s.paddr s.memsz (inside (s.memsz == 0) (in_ram (length ram) s.paddr s.memsz) tests.1 (some_size s.memsz some))).0;
       high = λ some. (in_range (length ram) s.paddr s.memsz (inside (s.memsz == 0) (in_ram (length ram) s.paddr s.memsz) tests.1 (some_size s.memsz some))).1;
     }

@@ -1,33 +1,13 @@
 -- Two writes into RAM, the second behind the first.
-use Rattle.std.proofs.Common.{◌≡◌, ℕ, ◌≤◌, ◌+◌, ◌-◌, List, ◌++◌, length, take, drop, slice_range, replicate, ◌==◌, ◌<◌, zero, suc, Bool, true, false, if◌then◌else◌, refl, sym, ap, ◌∙◌, arith, append_assoc, length-append}
-use Rattle.std.proofs.lemmas.List.{take_at, length-take-le, length-drop, drop-drop, replicate-append-replicate, length-replicate, take-append-drop, append-nil}
-use Rattle.std.proofs.Math.Seq.{drop-append-add}
+use Rattle.std.proofs.Common.{◌≡◌, ℕ, ◌≤◌, ◌+◌, ◌-◌, List, ◌++◌, length, take, drop, slice_range, replicate, ◌==◌, ◌<◌, zero, suc, true, false, if◌then◌else◌, refl, sym, ap, ◌∙◌, arith}
+use Rattle.std.proofs.lemmas.List.{length-take-le, length-drop, replicate-append-replicate, length-replicate}
+use Rattle.byte_pages.proofs.Writes.{two_writes, with_none}
 use Rattle.guest_ram.specs.Bytes.{ram_base, ram_after, IsInRam}
+use Rattle.std.proofs.lemmas.Bool.{false_from_ne_true}
 use Rattle.std.proofs.lemmas.Bool.Decides.{nat_tests}
 use Rattle.elf_image.specs.declared.segment.Segment.{Segment}
 use Rattle.elf_image.specs.Elf.{IsPlaceable, put_at, segment_bytes}
 
--- the bytes after these stand from a place on
-abbrev with_bytes : List ℕ → ℕ → List ℕ → List ℕ
-with_bytes r at xs = (take at r ++ xs) ++ drop (at + length xs) r
-
-drop_at : (p q : List ℕ) (n : ℕ) (k : ℕ) → length p ≡ n → drop (n + k) (p ++ q) ≡ drop k q
-drop_at p q n k h = ap (λ z. drop (z + k) (p ++ q)) (sym h) ∙ drop-append-add p q k
-
-pub two_writes : (r xs ys : List ℕ) (at next : ℕ) → next ≡ at + length xs → at + length xs + length ys ≤ length r → with_bytes (with_bytes r at xs) next ys ≡ with_bytes r at (xs ++ ys)
-two_writes r xs ys at next e h =
-    let front = take at r in
-    let rest = drop (at + length xs) r in
-    let len : length (front ++ xs) ≡ next = length-append front xs ∙ ap (λ n. n + length xs) (length-take-le at r (omega arith)) ∙ sym e in
-    let before : take next (with_bytes r at xs) ≡ front ++ xs = take_at (front ++ xs) rest next len in
-    let behind : drop (next + length ys) (with_bytes r at xs) ≡ drop (at + length (xs ++ ys)) r =
-    drop_at (front ++ xs) rest next (length ys) len ∙ drop-drop (length ys) (at + length xs) r
-    ∙ ap (λ n. drop n r) (let both = length-append xs ys in omega (arith, both)) in
-    ap (λ (z : List ℕ). (z ++ ys) ++ drop (next + length ys) (with_bytes r at xs)) before
-    ∙ ap (λ (z : List ℕ). ((front ++ xs) ++ ys) ++ z) behind
-    ∙ ap (λ (z : List ℕ). z ++ drop (at + length (xs ++ ys)) r) (append_assoc front xs ys)
-
--- the same by addresses
 pub ram_writes : (r xs ys : List ℕ) (addr next : ℕ) → IsInRam r addr (length xs + length ys) → next ≡ addr + length xs → ram_after (ram_after r addr xs) next ys ≡ ram_after r addr (xs ++ ys)
 ram_writes r xs ys addr next within e =
     let low = within.0 in
@@ -48,16 +28,10 @@ more_zeros r old new part addr next count done more within fits e zeros before a
 
 -- no zeros
 pub no_zeros : (r : List ℕ) (addr : ℕ) → ram_after r addr (replicate 0 0) ≡ r
-no_zeros r addr =
-    let e : addr - ram_base + 0 ≡ addr - ram_base = omega arith in
-    ap (λ z. z ++ drop (addr - ram_base + 0) r) (append-nil (take (addr - ram_base) r)) ∙ ap (λ z. take (addr - ram_base) r ++ drop z r) e ∙ take-append-drop (addr - ram_base) r
+no_zeros r addr = with_none r (addr - ram_base)
 
 zero_is : (n : ℕ) → (n == 0) ≡ true → n ≡ 0
 zero_is n h = grind (arith, nat_tests)
-
-as_false : (t : Bool) → (t ≡ true → ⊥) → t ≡ false
-as_false true never = absurd (never refl)
-as_false false never = refl
 
 above_zero : (n : ℕ) → (n ≡ 0 → ⊥) → 0 < n
 above_zero zero some = absurd (some refl)
@@ -73,7 +47,7 @@ length-part b from size h =
 pub put_both : (b ram mid new : List ℕ) (s : Segment) → (s.memsz ≡ 0 → ⊥) → IsPlaceable (length b) ram s → mid ≡ ram_after ram s.paddr (slice_range b s.offset (s.offset + s.filesz))
     → new ≡ ram_after mid (s.paddr + s.filesz) (replicate (s.memsz - s.filesz) 0) → new ≡ put_at b ram s
 put_both b ram mid new s some well file zeros =
-    let not_zero : (s.memsz == 0) ≡ false = as_false (s.memsz == 0) (λ h. some (zero_is s.memsz h)) in
+    let not_zero : (s.memsz == 0) ≡ false = false_from_ne_true (s.memsz == 0) (λ h. some (zero_is s.memsz h)) in
     let part = length-part b s.offset s.filesz well.file in
     let rest = length-replicate {A = ℕ} (s.memsz - s.filesz) 0 in
     let positive = above_zero s.memsz some in

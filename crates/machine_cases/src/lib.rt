@@ -1,5 +1,5 @@
-//! Worked cases of the crates of a guest's machine: its RAM, its images, its hart, its devices, and the
-//! machine whole. They stand in a crate of their own, since a crate with tests is proved twice.
+//! Worked cases of the crates of a guest's machine: its RAM, its hart, its devices, and the machine
+//! whole. They stand in a crate of their own, since a crate with tests is proved twice.
 #![tactic(auto)]
 
 #[cfg(test)]
@@ -12,8 +12,6 @@ mod clint;
 mod counting;
 #[cfg(test)]
 mod disk;
-#[cfg(test)]
-mod elf;
 #[cfg(test)]
 mod hart;
 #[cfg(test)]

@@ -1,17 +1,14 @@
 -- Bytes of a stream are written a range at a time.
-use Rattle.std.proofs.Common.{◌≡◌, ℕ, ◌+◌, ◌-◌, ◌<◌, ◌≤◌, min, ltb, List, [], ◌∷◌, ◌++◌, length, take, drop, refl, sym, ap, ◌∙◌, arith, append_assoc, inl, inr}
-use Rattle.std.proofs.lemmas.List.{take_at, drop_all, take-append-drop, drop-drop, append-nil, length-append, length-take-le, length-drop}
-use Rattle.std.proofs.Math.Seq.{drop-append-add}
+use Rattle.std.proofs.Common.{◌≡◌, ℕ, ◌+◌, ◌-◌, ◌<◌, ◌≤◌, min, ltb, List, [], ◌∷◌, ◌++◌, length, take, drop, refl, sym, ap, ◌∙◌, arith, inl, inr}
+use Rattle.std.proofs.lemmas.List.{drop_all, take-append-drop, length-take-le, length-drop}
 use Rattle.std.proofs.lemmas.Bool.{cases_lt, cond-true, cond-false, lt-ltb, le-ltb}
+use Rattle.byte_pages.specs.LittleEndian.{with_bytes}
+use Rattle.byte_pages.proofs.Writes.{length_with, two_writes, with_none}
 use Rattle.guest_ram.specs.Bytes.{ram_after}
 use Rattle.split_queue.specs.Sizes.{InRam}
 use Rattle.split_queue.specs.declared.range.Range.{Range}
 use Rattle.split_queue.specs.Streams.{address_of, written, stream_len, RangesIn}
 use Rattle.split_queue.proofs.StreamLemmas.{cons_len, ranges_same}
-
--- bytes with these put from a place on
-abbrev with_bytes : List ℕ → ℕ → List ℕ → List ℕ
-with_bytes bytes at xs = take at bytes ++ xs ++ drop (at + length xs) bytes
 
 -- two pieces, one right behind the other
 pub written_append : (ram : List ℕ) (rs : List Range) (pos : ℕ) (xs ys : List ℕ) → written ram rs pos (xs ++ ys) ≡ written (written ram rs pos xs) rs (pos + length xs) ys
@@ -21,37 +18,16 @@ written_append ram rs pos (x ∷ xs) ys =
     let e : pos + 1 + length xs ≡ pos + length (x ∷ xs) = omega arith in
     written_append one rs (pos + 1) xs ys ∙ ap (λ (k : ℕ). written (written one rs (pos + 1) xs) rs k ys) e
 
-length_with : (bytes : List ℕ) (at : ℕ) (xs : List ℕ) → at + length xs ≤ length bytes → length (with_bytes bytes at xs) ≡ length bytes
-length_with bytes at xs l =
-    omega (arith, length-append (take at bytes ++ xs) (drop (at + length xs) bytes), length-append (take at bytes) xs, length-take-le at bytes (omega arith), length-drop (at + length xs) bytes)
-
--- a byte and then those behind it are put
-with_more : (bytes : List ℕ) (at x : ℕ) (xs : List ℕ) → at + 1 + length xs ≤ length bytes → with_bytes (with_bytes bytes at (x ∷ [])) (at + 1) xs ≡ with_bytes bytes at (x ∷ xs)
-with_more bytes at x xs l =
-    let front : List ℕ = take at bytes ++ x ∷ [] in
-    let back : List ℕ = drop (at + 1) bytes in
-    let size : length front ≡ at + 1 = omega (arith, length-append (take at bytes) (x ∷ []), length-take-le at bytes (omega arith)) in
-    let past : at + 1 + length xs ≡ length front + length xs = omega arith in
-    let behind : at + 1 + length xs ≡ at + length (x ∷ xs) = omega arith in
-    let rest : drop (at + 1 + length xs) (front ++ back) ≡ drop (at + length (x ∷ xs)) bytes =
-    ap (λ (k : ℕ). drop k (front ++ back)) past ∙ (drop-append-add front back (length xs) ∙ (drop-drop (length xs) (at + 1) bytes ∙ ap (λ (k : ℕ). drop k bytes) behind)) in
-    ap (λ (b : List ℕ). (b ++ xs) ++ drop (at + 1 + length xs) (front ++ back)) (take_at front back (at + 1) size) ∙ (ap (λ (b : List ℕ). (front ++ xs) ++ b) rest ∙ ap (λ (b : List ℕ). b ++ drop (at + length (x ∷ xs)) bytes) (append_assoc (take at bytes) (x ∷ []) xs))
-
-with_none : (bytes : List ℕ) (at : ℕ) → bytes ≡ with_bytes bytes at []
-with_none bytes at =
-    let e : at + 0 ≡ at = omega arith in
-    sym (ap (λ (b : List ℕ). b ++ drop (at + 0) bytes) (append-nil (take at bytes)) ∙ (ap (λ (k : ℕ). take at bytes ++ drop k bytes) e ∙ take-append-drop at bytes))
-
 -- within one range, bytes are written as one slice
 written_part : (ram : List ℕ) (r : Range) (rs : List Range) (pos : ℕ) (xs : List ℕ) → InRam ram r.addr r.len → pos + length xs ≤ r.len → written ram (r ∷ rs) pos xs ≡ ram_after ram (r.addr + pos) xs
-written_part ram r rs pos [] h l = with_none ram (r.addr + pos - 0x80000000)
+written_part ram r rs pos [] h l = sym (with_none ram (r.addr + pos - 0x80000000))
 written_part ram r rs pos (x ∷ xs) h l =
     let a : ℕ = r.addr + pos in
     let at : address_of (r ∷ rs) pos ≡ a = cond-true (ltb pos r.len) a (address_of rs (pos - r.len)) (lt-ltb pos r.len (omega arith)) in
     let one : List ℕ = ram_after ram a (x ∷ []) in
     let size : length one ≡ length ram = length_with ram (a - 0x80000000) (x ∷ []) (omega (arith, h.0, h.1)) in
     let next : r.addr + (pos + 1) - 0x80000000 ≡ a - 0x80000000 + 1 = omega (arith, h.0) in
-    ap (λ (k : ℕ). written (ram_after ram k (x ∷ [])) (r ∷ rs) (pos + 1) xs) at ∙ (written_part one r rs (pos + 1) xs (h.0, omega (arith, h.1), omega (arith, h.2)) (omega arith) ∙ (ap (λ (k : ℕ). with_bytes one k xs) next ∙ with_more ram (a - 0x80000000) x xs (omega (arith, h.0, h.1))))
+    ap (λ (k : ℕ). written (ram_after ram k (x ∷ [])) (r ∷ rs) (pos + 1) xs) at ∙ (written_part one r rs (pos + 1) xs (h.0, omega (arith, h.1), omega (arith, h.2)) (omega arith) ∙ (ap (λ (k : ℕ). with_bytes one k xs) next ∙ two_writes ram (x ∷ []) xs (a - 0x80000000) (a - 0x80000000 + 1) (omega arith) (omega (arith, h.0, h.1))))
 
 -- a whole range is passed over
 written_past : (ram : List ℕ) (r : Range) (rs : List Range) (pos : ℕ) (xs : List ℕ) → r.len ≤ pos → written ram (r ∷ rs) pos xs ≡ written ram rs (pos - r.len) xs
