@@ -1,0 +1,5 @@
+//! Worked cases of the devices behind virtio. They stand in a crate of their own, since a crate with tests is proved twice.
+#![tactic(auto)]
+
+#[cfg(test)]
+mod disk;
