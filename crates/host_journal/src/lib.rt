@@ -5,10 +5,13 @@ mod head;
 mod journal_keep;
 mod keep;
 mod lines;
+mod put;
 mod quantum;
+mod show;
 
 pub use head::Head;
 pub use journal_keep::JournalKeep;
 pub use keep::{Keep, KeepErr};
 pub use lines::{put_end, put_head, put_host_tick, put_quantum, put_slot};
 pub use quantum::Quantum;
+pub use show::Show;
