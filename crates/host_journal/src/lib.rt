@@ -1,6 +1,8 @@
 //! What a run prints: the entries of a run, their texts, and the keepers that put them to a sink.
 #![tactic(auto)]
 
+mod counts;
+mod guest_lines;
 mod head;
 mod journal_keep;
 mod keep;
@@ -8,6 +10,10 @@ mod lines;
 mod put;
 mod quantum;
 mod show;
+mod summary;
+mod summary_keep;
+mod trace_keep;
+mod traces;
 
 pub use head::Head;
 pub use journal_keep::JournalKeep;
@@ -15,3 +21,5 @@ pub use keep::{Keep, KeepErr};
 pub use lines::{put_end, put_head, put_host_tick, put_quantum, put_slot};
 pub use quantum::Quantum;
 pub use show::Show;
+pub use summary_keep::SummaryKeep;
+pub use trace_keep::TraceKeep;

@@ -71,7 +71,7 @@ pub fn put_end(out: &mut Bytes, t: u64) -> Result<(), NoMemory>
 
 /// Puts a word and a number, and ends the line.
 #[tactic(auto, using(trace_rec::proofs::GrownLemmas::grown_trans))]
-fn put_last_field(out: &mut Bytes, word: &[u8], n: u64) -> Result<(), NoMemory>
+pub(crate) fn put_last_field(out: &mut Bytes, word: &[u8], n: u64) -> Result<(), NoMemory>
     ensures ok { OnOk result (out.new ≡ out.old ++ (field word.now n ++ codes "\n")) }
     ensures grown { IsGrown out.old out.new }
 {
@@ -81,7 +81,7 @@ fn put_last_field(out: &mut Bytes, word: &[u8], n: u64) -> Result<(), NoMemory>
 
 /// Puts a word and a number.
 #[tactic(auto, using(trace_rec::proofs::GrownLemmas::grown_trans))]
-fn put_field(out: &mut Bytes, word: &[u8], n: u64) -> Result<(), NoMemory>
+pub(crate) fn put_field(out: &mut Bytes, word: &[u8], n: u64) -> Result<(), NoMemory>
     ensures ok { OnOk result (out.new ≡ out.old ++ field word.now n) }
     ensures grown { IsGrown out.old out.new }
 {
@@ -91,7 +91,7 @@ fn put_field(out: &mut Bytes, word: &[u8], n: u64) -> Result<(), NoMemory>
 
 /// Puts a number in decimal.
 #[tactic(auto, using(trace_rec::proofs::GrownLemmas::grown_by, trace_rec::proofs::GrownLemmas::grown_same))]
-fn put_decimal(out: &mut Bytes, n: u64) -> Result<(), NoMemory>
+pub(crate) fn put_decimal(out: &mut Bytes, n: u64) -> Result<(), NoMemory>
     ensures ok { OnOk result (out.new ≡ out.old ++ decimal n) }
     ensures grown { IsGrown out.old out.new }
 {
@@ -100,7 +100,7 @@ fn put_decimal(out: &mut Bytes, n: u64) -> Result<(), NoMemory>
 
 /// Puts a word.
 #[tactic(auto, using(trace_rec::proofs::GrownLemmas::grown_by, trace_rec::proofs::GrownLemmas::grown_same))]
-fn put_word(out: &mut Bytes, word: &[u8]) -> Result<(), NoMemory>
+pub(crate) fn put_word(out: &mut Bytes, word: &[u8]) -> Result<(), NoMemory>
     ensures ok { OnOk result (out.new ≡ out.old ++ word.now) }
     ensures grown { IsGrown out.old out.new }
 {

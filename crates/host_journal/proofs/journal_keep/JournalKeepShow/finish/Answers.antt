@@ -1,4 +1,4 @@
-use Rattle.std.proofs.Common.{rules, ℕ, List, [], ◌∷◌, ◌++◌, Bool, subst}
+use Rattle.std.proofs.Common.{rules, [], ◌∷◌, ◌++◌, Bool, subst}
 use Rattle.std.proofs.lemmas.Result.{on_ok_weaker}
 use Rattle.host_journal.proofs.StandingLemmas.{entry_added}
 use Rattle.host_journal.specs.Entries.{End}
