@@ -2,12 +2,12 @@
 ghost use Rattle.std.specs.Prelude.{◌≡◌, ◌<◌, length, IfOk};
 ghost use Rattle.host_journal.specs.Keepers.{head_of};
 
-use host_journal::{Head, JournalKeep, Keep, KeepErr, Quantum};
+use host_journal::{Head, JournalKeep, Keep, KeepErr, Quantum, Show};
 use std::alloc::Global;
 use std::test::Fail;
 use tb_base::{ItemList, Name};
 use tb_io::MemSink;
-use trace_rec::{Log, Rec, What};
+use trace_rec::{Log, Rec, View, What};
 
 /// One guest at half speed on one slot, for two host ticks.
 fn keeper(alloc: Global) -> Result<JournalKeep, Fail>
@@ -21,7 +21,7 @@ fn keeper(alloc: Global) -> Result<JournalKeep, Fail>
         host_ticks: 2,
         names,
     };
-    Ok(JournalKeep::new(alloc, head)?)
+    Ok(JournalKeep::new(alloc, head, View::Journal)?)
 }
 
 /// The record of a jump in place in the first tick.

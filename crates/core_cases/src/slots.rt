@@ -1,7 +1,7 @@
 //! A node that never wakes, on one slot.
 
 use crate::sleeper::Sleeper;
-use host_journal::{Head, JournalKeep};
+use host_journal::{Head, JournalKeep, Show};
 use lookahead_core::Core;
 use slot_sched::{Bench, TickFault};
 use std::cell::Cell;
@@ -9,6 +9,7 @@ use std::rc::Rc;
 use std::test::Fail;
 use tb_base::{ItemList, Name};
 use tb_io::MemSink;
+use trace_rec::View;
 
 /// In the first host tick it does the tick that is due, and then as many as the slot has units left;
 /// in the second as many as it has units. It begins none of them.
@@ -36,7 +37,7 @@ run 0 units 5 done 10\n";
         host_ticks: 2,
         names,
     };
-    let mut keep = JournalKeep::new(alloc, head)?;
+    let mut keep = JournalKeep::new(alloc, head, View::Journal)?;
     let mut out = MemSink::new(alloc, 1000)?;
     keep.start(&mut out)?;
     let told = bench.run(&mut keep, &mut out, 2);
