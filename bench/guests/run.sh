@@ -6,9 +6,7 @@ set -eu
 steps=${1:-1920000}
 rate=${2:-1000}
 here=$(cd "$(dirname "$0")" && pwd)
-top=$(cd "$here/../.." && pwd)
-work=$(mktemp -d)
-trap 'rm -rf "$work"' EXIT
+. "$here/../compare.sh"
 
 # an experiment: a file, guests, slots; each slot has the capacity of the rate, and as many guests as the factor
 experiment() {
@@ -26,9 +24,7 @@ experiment "$work/one.toml" 1 1
 experiment "$work/many.toml" 32 8
 printf '\x6f\x00\x00\x00' > "$work/jump.bin"
 
-(cd "$top/crates/diecast" && rt run -- plan none > "$work/build.log" 2>&1) || true
-diecast=$top/crates/diecast/out/diecast
-[ -x "$diecast" ] || { cat "$work/build.log"; exit 1; }
+build_diecast
 
 cd "$work"
 TIMEFORMAT='%3U %3S'

@@ -5,29 +5,13 @@ set -eu
 host_ticks=${1:-2000}
 rate=${2:-1000}
 here=$(cd "$(dirname "$0")" && pwd)
-top=$(cd "$here/../.." && pwd)
-work=$(mktemp -d)
-trap 'rm -rf "$work"' EXIT
+. "$here/../compare.sh"
 
-cat > "$work/a.toml" <<FILE
-version = 1
-factor = 1
-[[slot]]
-capacity = $rate
-[[guest]]
-name = "a"
-image = "a.bin"
-format = "flat"
-ram = 4096
-rate = $rate
-slot = 0
-FILE
+one_guest 4096 "$rate"
 printf '\x6f\x00\x00\x00' > "$work/a.bin"
 
 gcc -O2 -o "$work/journal" "$here/journal.c"
-(cd "$top/crates/diecast" && rt run -- plan none > "$work/build.log" 2>&1) || true
-diecast=$top/crates/diecast/out/diecast
-[ -x "$diecast" ] || { cat "$work/build.log"; exit 1; }
+build_diecast
 
 cd "$work"
 best() { # the least of five times, in milliseconds

@@ -4,9 +4,7 @@
 set -eu
 other=${1:-}
 here=$(cd "$(dirname "$0")" && pwd)
-top=$(cd "$here/../.." && pwd)
-work=$(mktemp -d)
-trap 'rm -rf "$work"' EXIT
+. "$here/../compare.sh"
 
 image() { # an image FILE of these words, low byte first
     local file=$1 hex
@@ -40,9 +38,7 @@ experiment many.toml 1000 jump $(printf 'wait %.0s' {1..31})
 experiment slow.toml 1 jump
 
 gcc -O2 "-DPROGRAM=0x${timer// /, 0x}" -o "$work/waits" "$here/waits.c"
-(cd "$top/crates/diecast" && rt run -- plan none > "$work/build.log" 2>&1) || true
-diecast=$top/crates/diecast/out/diecast
-[ -x "$diecast" ] || { cat "$work/build.log"; exit 1; }
+build_diecast
 
 cd "$work"
 TIMEFORMAT='%3U %3S'

@@ -44,7 +44,6 @@ fn main(rt: HostRuntime) -> Result<(), anyhow::Error> {
 }
 PROGRAM
 
-gcc -O2 -o "$work/ram_c" "$here/ram.c"
-(cd "$work/crates/bench_ram" && rt run > "$work/log" 2>&1) || { tail -5 "$work/log"; exit 1; }
+build_both ram
 
 compare guest_ram "$work/crates/bench_ram/out/bench_ram" "$work/ram_c"

@@ -3,13 +3,8 @@
 # file with the most guests, disks and links. The time is to grow as the size does. Needs rt and python3.
 set -eu
 here=$(cd "$(dirname "$0")" && pwd)
-top=$(cd "$here/../.." && pwd)
-work=$(mktemp -d)
-trap 'rm -rf "$work"' EXIT
-
-(cd "$top/crates/diecast" && rt run -- none > "$work/build.log" 2>&1) || true
-diecast=$top/crates/diecast/out/diecast
-[ -x "$diecast" ] || { cat "$work/build.log"; exit 1; }
+. "$here/../compare.sh"
+build_diecast
 
 cd "$work"
 python3 "$here/reading.py" "$diecast"

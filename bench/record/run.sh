@@ -38,7 +38,6 @@ fn main(rt: HostRuntime) -> Result<(), anyhow::Error> {
 }
 PROGRAM
 
-gcc -O2 -o "$work/record_c" "$here/record.c"
-(cd "$work/crates/bench_record" && rt run > "$work/log" 2>&1) || { tail -5 "$work/log"; exit 1; }
+build_both record
 
 compare put_rec "$work/crates/bench_record/out/bench_record" "$work/record_c"

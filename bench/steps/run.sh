@@ -7,27 +7,14 @@ here=$(cd "$(dirname "$0")" && pwd)
 . "$here/../compare.sh"
 . "$here/../loop.sh"
 
-cat > "$work/a.toml" <<FILE
-version = 1
-factor = 1
-[[slot]]
-capacity = $rate
-[[guest]]
-name = "a"
-image = "a.bin"
-format = "flat"
-ram = 65536
-rate = $rate
-FILE
+one_guest 65536 "$rate"
 for word in ${words//,/}; do # low byte first
     hex=${word#0x}
     printf "\\x${hex:6:2}\\x${hex:4:2}\\x${hex:2:2}\\x${hex:0:2}"
 done > "$work/a.bin"
 
 gcc -O2 "-DPROGRAM=$words" -o "$work/steps" "$here/steps.c"
-(cd "$top/crates/diecast" && rt run -- none > "$work/log" 2>&1) || true
-diecast=$top/crates/diecast/out/diecast
-[ -x "$diecast" ] || { cat "$work/log"; exit 1; }
+build_diecast
 
 cd "$work"
 cat > ours.sh <<OURS

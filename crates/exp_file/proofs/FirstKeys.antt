@@ -1,6 +1,6 @@
 -- The first key of a map that a table doesn't know.
 use Rattle.std.proofs.Common.{IfSome, IfNone, option_map, Option, ◌≡◌, ℕ, ◌⊎◌, inl, inr, Bool, true, false, if◌then◌else◌, List, [], ◌∷◌, map, Some, None, Bor, String, Global, string_bytes, subst, refl, sym, ap, ◌∙◌, ◌||◌, Less, nat_cmp}
-use Rattle.std.proofs.lemmas.Bool.{false≢true}
+use Rattle.std.proofs.lemmas.Bool.{false≢true, or_cases, or_right}
 use Rattle.std.proofs.lemmas.Cmp.{nat_list_cmp_total, tied_itself}
 use Rattle.std.proofs.lemmas.Option.{none-some, same_Some}
 use Rattle.std.proofs.lemmas.Slice.Eq.{bytes_eq-Decides}
@@ -33,14 +33,6 @@ unknown_step ks it e t s b i w h =
     (any_now ks (string_bytes e.0) ∙ ap (λ (z : List ℕ). list_any (λ x. bytes_eq x.now z) ks) (sym w) ∙ h)
     ∙ ap (λ (z : List ℕ). if b then first_unknown (nows ks) (members_view t) else Some z) (sym w)
 
-or_cases : (a b : Bool) → (a || b) ≡ true → (a ≡ true) ⊎ (b ≡ true)
-or_cases true b h = inl refl
-or_cases false b h = inr h
-
-or_second : (a b : Bool) → b ≡ true → (a || b) ≡ true
-or_second true b h = refl
-or_second false b h = h
-
 same_bytes : (x y : List ℕ) → bytes_eq x y ≡ true → x ≡ y
 same_bytes x y h = (bytes_eq-Decides x y).0 h
 
@@ -53,7 +45,7 @@ least_step : (keys : List (List ℕ)) (name : List ℕ) (d : Data) (ms : Members
     → (k : List ℕ) → (if t then first_unknown keys ms else Some name) ≡ Some k → IsLeastUnknown keys (member name d ms) k
 least_step keys name d ms true e above rest k h =
     let found = rest k h in record {
-      unknown = (or_second (bytes_eq name k) (has_key k ms) found.unknown.0, found.unknown.1);
+      unknown = (or_right (bytes_eq name k) (has_key k ms) found.unknown.0, found.unknown.1);
       least = λ j u. elim (or_cases (bytes_eq name j) (has_key j ms) u.0) as (λ _. is_le (slice_cmp nat_cmp k j) ≡ true) [
         | inl here ↦ absurd (false≢true (sym u.1 ∙ among_here keys name j true e here))
         | inr later ↦ found.least j (later, u.1)

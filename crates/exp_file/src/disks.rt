@@ -18,7 +18,7 @@ use crate::section::Section;
 use crate::slots::row;
 use std::alloc::Global;
 use tb_base::ItemList;
-use tb_base::limits::{BASE, PER_SECTOR, SECTORS, SEEK_DEN, SEEK_NUM};
+use tb_base::limits::{BASE, DISKS_PER_GUEST, PER_SECTOR, SECTORS, SEEK_DEN, SEEK_NUM};
 use toml::Value;
 
 /// The guest that the text at a key names, if there is one.
@@ -58,7 +58,7 @@ fn with_room(done: &[DiskSpec], row: &Row<'_>, g: u32) -> Result<u32, ExpErr>
     ensures same { IfOk result (λ x. x ≡ g) }
     ensures room { IfOk result (λ x. disks_of g done.now < 2) }
 {
-    if disks_of(g, done) < 2 {
+    if disks_of(g, done) < DISKS_PER_GUEST {
         Ok(g)
     } else {
         Err(row.fault("guest", ExpWhy::Range))

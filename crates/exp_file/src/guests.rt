@@ -17,6 +17,7 @@ use crate::rows::Row;
 use crate::section::Section;
 use crate::slots::row;
 use std::alloc::Global;
+use tb_base::limits::{NICS, RAM, RAM_STEP, RATE};
 use toml::Value;
 
 #[tactic(auto, unfolding(crate::specs::Tables::guest_of))]
@@ -29,10 +30,10 @@ fn read_guest(alloc: Global, slots: u32, row: &Row<'_>) -> Result<GuestSpec, Exp
     let name = row.name(alloc, "name", Form::GuestName)?;
     let image = row.name(alloc, "image", Form::ImageName)?;
     let format = row.format()?;
-    let ram = row.number_or("ram", 4096, 16_777_216, 1_048_576)?;
-    row.multiple("ram", ram, 4096)?;
-    let rate = row.number("rate", 1, 100_000)?;
-    let nics = row.number_or("nics", 0, 4, 0)?;
+    let ram = row.number_or("ram", u64::from(RAM_STEP), u64::from(RAM), 1_048_576)?;
+    row.multiple("ram", ram, u64::from(RAM_STEP))?;
+    let rate = row.number("rate", 1, u64::from(RATE))?;
+    let nics = row.number_or("nics", 0, u64::from(NICS), 0)?;
     let slot = row.maybe_number("slot", 0, slots.saturating_sub(1))?;
     Ok(GuestSpec {
         name,

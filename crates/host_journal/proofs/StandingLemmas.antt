@@ -9,19 +9,11 @@ use Rattle.trace_rec.specs.declared.view.View.{View}
 use Rattle.trace_rec.specs.declared.rec.Rec.{Rec}
 use Rattle.trace_rec.specs.Lines.{rec_line}
 use Rattle.tb_io.specs.Puts.{Takes, TakesPart}
-use Rattle.tb_io.proofs.Parts.{takes_more}
+use Rattle.tb_io.proofs.Parts.{takes_none, takes_more, part_more, part_longer}
 use Rattle.host_journal.specs.Standing.{Stands, Adds}
 use Rattle.host_journal.specs.Texts.{rec_lines, head_line, entry_lines, entries_text}
 use Rattle.host_journal.specs.Entries.{Entry}
 use Rattle.host_journal.specs.declared.head.Head.{Head}
-
-pub part_more : (a b c : Option (List ℕ)) (x y : List ℕ) → Takes a b x → TakesPart b c y → TakesPart a c (x ++ y)
-part_more a b c x y h k =
-    (x ++ k.0, record { rest = k.1.rest; whole = ap (λ z. x ++ z) k.1.whole ∙ sym (append_assoc x k.0 k.1.rest) }, takes_more a b c x k.0 h k.2)
-
-pub part_longer : (a b : Option (List ℕ)) (x y : List ℕ) → TakesPart a b x → TakesPart a b (x ++ y)
-part_longer a b x y k =
-    (k.0, record { rest = k.1.rest ++ y; whole = ap (λ z. z ++ y) k.1.whole ∙ append_assoc k.0 k.1.rest y }, k.2)
 
 -- nothing is put once something failed
 pub adds_nothing : (f : Bool) (a : Option (List ℕ)) (x : List ℕ) → f ≡ true → Adds f a f a x
@@ -87,10 +79,6 @@ pub entry_added : (f g : Bool) (a b : Option (List ℕ)) (v : View) (h : Head) (
     → (before : Option (List ℕ)) (es : List Entry) → Stands f before a (entries_text v h es) → Stands g before b (entries_text v h (es ++ e ∷ []))
 entry_added f g a b v h e p before es s =
     subst (λ (z : List ℕ). Stands g before b z) (sym (entries_text-append v h es e)) (p before (entries_text v h es) s)
-
-pub takes_none : (a : Option (List ℕ)) → Takes a a []
-takes_none None = tt
-takes_none (Some o) = ap Some (sym (append-nil o))
 
 -- a journal that was begun
 pub stands_start : (f g : Bool) (a b : Option (List ℕ)) (v : View) (h : Head) → f ≡ false → Adds f a g b (head_line h) → Stands g a b (entries_text v h [])

@@ -1,19 +1,18 @@
 //! The lines of a journal.
 ghost use Rattle.std.specs.Prelude.{◌≡◌, ◌++◌, OnOk, codes};
-ghost use Rattle.std.specs.Fmt.{decimal};
-ghost use Rattle.trace_rec.specs.Grown.{IsGrown};
+ghost use Rattle.tb_text.specs.Grown.{IsGrown};
 ghost use Rattle.trace_rec.specs.Lines.{field};
 ghost use Rattle.host_journal.specs.Texts.{head_line, size_words, host_line, slot_line, quantum_line, end_line};
 
 use crate::head::Head;
 use crate::quantum::Quantum;
 use tb_base::{Bytes, NoMemory};
-use tb_text::put_dec;
+use tb_text::{put_field, put_word};
 
 /// Puts the first line of a journal at the end of a text.
 ///
 /// After a refusal the text has its old bytes and a part of the line, here and in the calls below.
-#[tactic(auto, using(trace_rec::proofs::GrownLemmas::grown_trans))]
+#[tactic(auto, using(tb_text::proofs::GrownLemmas::grown_trans))]
 pub fn put_head(out: &mut Bytes, head: &Head) -> Result<(), NoMemory>
     ensures ok { OnOk result (out.new ≡ out.old ++ head_line head.now) }
     ensures grown { IsGrown out.old out.new }
@@ -25,7 +24,7 @@ pub fn put_head(out: &mut Bytes, head: &Head) -> Result<(), NoMemory>
 }
 
 /// Puts how many slots and guests there are.
-#[tactic(auto, using(trace_rec::proofs::GrownLemmas::grown_trans), unfolding(crate::specs::Texts::size_words))]
+#[tactic(auto, using(tb_text::proofs::GrownLemmas::grown_trans), unfolding(crate::specs::Texts::size_words))]
 fn put_sizes(out: &mut Bytes, head: &Head) -> Result<(), NoMemory>
     ensures ok { OnOk result (out.new ≡ out.old ++ size_words head.now) }
     ensures grown { IsGrown out.old out.new }
@@ -51,7 +50,7 @@ pub fn put_slot(out: &mut Bytes, s: u32) -> Result<(), NoMemory>
 }
 
 /// Puts the line of a quantum, without its records.
-#[tactic(auto, using(trace_rec::proofs::GrownLemmas::grown_trans))]
+#[tactic(auto, using(tb_text::proofs::GrownLemmas::grown_trans))]
 pub fn put_quantum(out: &mut Bytes, q: &Quantum) -> Result<(), NoMemory>
     ensures ok { OnOk result (out.new ≡ out.old ++ quantum_line q.now) }
     ensures grown { IsGrown out.old out.new }
@@ -70,39 +69,11 @@ pub fn put_end(out: &mut Bytes, t: u64) -> Result<(), NoMemory>
 }
 
 /// Puts a word and a number, and ends the line.
-#[tactic(auto, using(trace_rec::proofs::GrownLemmas::grown_trans))]
+#[tactic(auto, using(tb_text::proofs::GrownLemmas::grown_trans))]
 pub(crate) fn put_last_field(out: &mut Bytes, word: &[u8], n: u64) -> Result<(), NoMemory>
     ensures ok { OnOk result (out.new ≡ out.old ++ (field word.now n ++ codes "\n")) }
     ensures grown { IsGrown out.old out.new }
 {
     put_field(out, word, n)?;
     put_word(out, b"\n")
-}
-
-/// Puts a word and a number.
-#[tactic(auto, using(trace_rec::proofs::GrownLemmas::grown_trans))]
-pub(crate) fn put_field(out: &mut Bytes, word: &[u8], n: u64) -> Result<(), NoMemory>
-    ensures ok { OnOk result (out.new ≡ out.old ++ field word.now n) }
-    ensures grown { IsGrown out.old out.new }
-{
-    put_word(out, word)?;
-    put_decimal(out, n)
-}
-
-/// Puts a number in decimal.
-#[tactic(auto, using(trace_rec::proofs::GrownLemmas::grown_by, trace_rec::proofs::GrownLemmas::grown_same))]
-pub(crate) fn put_decimal(out: &mut Bytes, n: u64) -> Result<(), NoMemory>
-    ensures ok { OnOk result (out.new ≡ out.old ++ decimal n) }
-    ensures grown { IsGrown out.old out.new }
-{
-    put_dec(out, n)
-}
-
-/// Puts a word.
-#[tactic(auto, using(trace_rec::proofs::GrownLemmas::grown_by, trace_rec::proofs::GrownLemmas::grown_same))]
-pub(crate) fn put_word(out: &mut Bytes, word: &[u8]) -> Result<(), NoMemory>
-    ensures ok { OnOk result (out.new ≡ out.old ++ word.now) }
-    ensures grown { IsGrown out.old out.new }
-{
-    out.push_slice(word)
 }

@@ -43,7 +43,8 @@ fn put_guests<O: Sink>(
 ) -> Result<(), KeepErr>
     requires each { length counts.now ≡ length names.now }
     requires few { length names.now ≤ 32 }
-    ensures adds { Adds failed.old (O.taken out.old) failed.new (O.taken out.new) (texts_below (guest_counts names.now (counts_at counts.now)) (length names.now)) }
+    ensures adds { Adds failed.old (O.taken out.old) failed.new (O.taken out.new)
+        (texts_below (guest_counts names.now (counts_at counts.now)) (length names.now)) }
     ensures ok { OnOk result (failed.old ≡ false → failed.new ≡ false) }
     ensures err { OnErr result (failed.new ≡ true) }
     ensures cause { KeepCause (O.faults out.old) (O.faults out.new) result }

@@ -15,7 +15,7 @@ pub const RAM_STEP: u32 = 4096;
 /// The most RAM of a guest in bytes.
 pub const RAM: u32 = 16_777_216;
 /// Most disks of one guest.
-pub const DISKS_PER_GUEST: u32 = 2;
+pub const DISKS_PER_GUEST: usize = 2;
 /// Most disks of an experiment.
 pub const DISKS: usize = 64;
 /// Most sectors of a disk; the least is 1. A sector has 512 bytes.
@@ -44,5 +44,3 @@ pub const HOST_TICKS: u64 = 1_000_000;
 pub const EXPERIMENT_FILE: usize = 1_048_576;
 /// Most bytes of an image file.
 pub const IMAGE_FILE: usize = 33_554_432;
-/// Most bytes of a disk image file.
-pub const DISK_FILE: usize = 16_777_216;

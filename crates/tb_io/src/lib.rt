@@ -8,6 +8,7 @@ mod host_sink;
 mod mem_files;
 mod mem_sink;
 mod sink;
+mod write_err;
 
 pub use files::{Files, ReadErr};
 pub use host_files::HostFiles;
@@ -15,3 +16,4 @@ pub use host_sink::HostSink;
 pub use mem_files::MemFiles;
 pub use mem_sink::MemSink;
 pub use sink::{PutErr, Sink};
+pub use write_err::WriteErr;

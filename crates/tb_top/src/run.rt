@@ -87,7 +87,8 @@ fn put_run<N: Node, O: Sink, K: Show<O>>(
     requires members { members_of bench ≤ K.members keep.old }
     requires made { K.is_fresh keep.old }
     ensures puts { (x : Setup N.State) → BenchStands x bench host_ticks → IsAtTick x bench host_ticks start →
-        RunPuts (K.text keep.old) (rules N.motion x (plan_of bench host_ticks)) (O.taken out.old) (O.taken out.new) (O.faults out.old) (O.faults out.new) result }
+        RunPuts (K.text keep.old) (rules N.motion x (plan_of bench host_ticks))
+        (O.taken out.old) (O.taken out.new) (O.faults out.old) (O.faults out.new) result }
     ensures cause { RunCause (O.faults out.old) (O.faults out.new) result }
 {
     let mut bench = bench;

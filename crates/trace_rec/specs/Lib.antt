@@ -1,4 +1,3 @@
--- Claims: Lines, which the headline rests on, Shown, and Grown for a put that fails.
-pub mod Grown
+-- Claims: Lines, which the headline rests on, and Shown.
 pub mod Lines
 pub mod Shown

@@ -1,0 +1,79 @@
+#!/bin/bash
+# Runs the examples with the built program, and compares what they print with what stands beside them.
+# It builds nothing: `rt run` in crates/diecast leaves the program where this looks for it.
+#
+# The journal of one-guest, the plans of two-slots, the text of hello-uart and all lines of messages were worked
+# out by hand. The journal of two-slots and both files of compiled-c are the output of a run that was kept, so they
+# show only that it has not changed.
+#
+# usage: tools/examples.sh [PROGRAM]
+set -u
+
+top=$(cd "$(dirname "$0")/.." && pwd)
+program=$(realpath "${1:-$top/crates/diecast/out/diecast}") || exit 2
+[ -x "$program" ] || { echo "no program at $program" >&2; exit 2; }
+cd "$top/examples" || exit 2
+room=$(mktemp -d) || exit 2
+trap 'rm -rf "$room"' EXIT
+failed=0
+name=
+
+tell() {
+    if [ "$1" = 0 ]; then
+        echo "ok: $name: $2"
+    else
+        echo "FAILED: $name: $2"
+        failed=1
+    fi
+}
+
+# Runs a command in a folder. It must end with this exit status, and tell this line.
+run() {
+    local folder=$1 status=$2 line=$3
+    shift 3
+    name="$folder: $*"
+    (cd "$folder" && "$program" "$@" >"$room/out" 2>"$room/msg")
+    [ "$?" = "$status" ] && [ "$(cat "$room/msg")" = "$line" ]
+    tell "$?" "exit status $status and the line '$line'"
+}
+
+# What the last command put, or what a filter makes of it, must be what stands in a file.
+puts() {
+    local wanted=$1
+    shift
+    "${@:-cat}" <"$room/out" | diff "$wanted" -
+    tell "$?" "$wanted"
+}
+
+run one-guest 0 "" run a.toml --host-ticks 4 --view journal
+puts one-guest/a.journal
+
+sed 's/rate = 2/rate = 3/' one-guest/a.toml >"$room/over.toml"
+run one-guest 1 "diecast: overload: slot 0 needs 3, has 2" run "$room/over.toml" --host-ticks 4 --view journal
+puts /dev/null
+
+run two-slots 0 "" plan fits.toml
+puts two-slots/fits.plan
+
+over="diecast: overload: slot 0 needs 8, has 4"
+run two-slots 1 "$over" plan over.toml
+puts two-slots/over.plan
+
+run two-slots 0 "" run fits.toml --host-ticks 4 --view journal
+puts two-slots/fits.journal
+
+run two-slots 1 "$over" run over.toml --host-ticks 4 --view journal
+puts /dev/null
+
+# Both images of the compiled guest do the same, and the guest turns its power off where its sum is right.
+for image in elf flat; do
+    run compiled-c 0 "" run "$image.toml" --host-ticks 15 --view journal
+    puts compiled-c/crc.events grep -v ' instr '
+    puts compiled-c/crc.sum sha256sum
+done
+
+run hello-uart 0 "" run hello.toml --host-ticks 10 --view journal
+# shellcheck disable=SC2016
+puts hello-uart/hello.txt awk '$3 == "uart" { printf "%c", $4 }'
+
+exit "$failed"
