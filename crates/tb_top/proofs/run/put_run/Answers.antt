@@ -23,7 +23,7 @@ whole was text r old new same es complete all = (es, complete, subst (λ (t : Li
 
 pub returns-in-Err-clause-puts : goal.returns-in-Err-clause-puts
 returns-in-Err-clause-puts g c = λ x stands tick.
-    cut (g.K.Show.text c.start.new.self) (g.K.Show.text c.args.keep.now) (rules g.N.Node.motion x (plan_of c.args.bench c.args.host_ticks)) _ _ _ _ c.of_keeper.result
+    cut (g.K.Show.text c.start.new.self) (g.K.Show.text c.args.keep.now) (rules g.N.Node.motion x (plan_of c.args.bench c.args.host_ticks)) (g.O.Sink.taken c.args.out.now) (g.O.Sink.taken c.start.new.out) (g.O.Sink.faults c.args.out.now) (g.O.Sink.faults c.start.new.out) c.of_keeper.result
     (g.met.K.Show.same c.start.new.self c.args.keep.now c.in-Err.ensures.head)
     (λ h. c.in-Err.ensures.cause.failed (ap Err (c.of_keeper.ensures.failed h)))
     [] tt (g.met.K.Show.part c.start.new.self _ _ [] (c.in-Err.ensures.stands c.requires.made))
@@ -31,7 +31,7 @@ returns-in-Err-clause-puts g c = λ x stands tick.
 pub returns-in-Err-run-clause-puts : goal.returns-in-Err-run-clause-puts
 returns-in-Err-run-clause-puts g c = λ x stands tick.
     let found = c.in-Err-run.ensures.stopped x _ stands tick c.requires.fresh (c.in-Ok.ensures.stands c.requires.made) in
-    cut (g.K.Show.text c.run.new.keep) (g.K.Show.text c.args.keep.now) (rules g.N.Node.motion x (plan_of c.args.bench c.args.host_ticks)) _ _ _ _ c.of_tick.result
+    cut (g.K.Show.text c.run.new.keep) (g.K.Show.text c.args.keep.now) (rules g.N.Node.motion x (plan_of c.args.bench c.args.host_ticks)) (g.O.Sink.taken c.args.out.now) (g.O.Sink.taken c.run.new.out) (g.O.Sink.faults c.args.out.now) (g.O.Sink.faults c.run.new.out) c.of_tick.result
     (g.met.K.Show.same c.run.new.keep c.args.keep.now (c.in-Err-run.ensures.head ∙ c.in-Ok.ensures.head))
     (λ h. rose_since _ _ _ c.in-Ok.ensures.cause.later (c.in-Err-run.ensures.cause.failed (ap Err (c.of_tick.ensures.failed h))))
     found.0 found.2 (g.met.K.Show.part c.run.new.keep _ _ found.0 found.1)
@@ -39,14 +39,14 @@ returns-in-Err-run-clause-puts g c = λ x stands tick.
 pub returns-in-Ok-finish-clause-puts : goal.returns-in-Ok-finish-clause-puts
 returns-in-Ok-finish-clause-puts g c = λ x stands tick.
     let found = c.in-Ok-run.ensures.complete x _ stands tick c.requires.fresh (c.in-Ok.ensures.stands c.requires.made) in
-    whole (g.K.Show.text c.run.new.keep) (g.K.Show.text c.args.keep.now) (rules g.N.Node.motion x (plan_of c.args.bench c.args.host_ticks)) _ _
+    whole (g.K.Show.text c.run.new.keep) (g.K.Show.text c.args.keep.now) (rules g.N.Node.motion x (plan_of c.args.bench c.args.host_ticks)) (g.O.Sink.taken c.args.out.now) (g.O.Sink.taken c.finish.new.out)
     (g.met.K.Show.same c.run.new.keep c.args.keep.now (c.in-Ok-run.ensures.head ∙ c.in-Ok.ensures.head))
     (found.0 ++ End ∷ []) found.2 (c.in-Ok-finish.ensures.whole _ found.0 found.1)
 
 pub returns-clause-puts : goal.returns-clause-puts
 returns-clause-puts g c = λ x stands tick.
     let found = c.in-Ok-run.ensures.complete x _ stands tick c.requires.fresh (c.in-Ok.ensures.stands c.requires.made) in
-    cut (g.K.Show.text c.run.new.keep) (g.K.Show.text c.args.keep.now) (rules g.N.Node.motion x (plan_of c.args.bench c.args.host_ticks)) _ _ _ _ c.of_keeper-in-Err-finish.result
+    cut (g.K.Show.text c.run.new.keep) (g.K.Show.text c.args.keep.now) (rules g.N.Node.motion x (plan_of c.args.bench c.args.host_ticks)) (g.O.Sink.taken c.args.out.now) (g.O.Sink.taken c.finish.new.out) (g.O.Sink.faults c.args.out.now) (g.O.Sink.faults c.finish.new.out) c.of_keeper-in-Err-finish.result
     (g.met.K.Show.same c.run.new.keep c.args.keep.now (c.in-Ok-run.ensures.head ∙ c.in-Ok.ensures.head))
     (λ h. rose_since _ _ _ c.in-Ok.ensures.cause.later (rose_since _ _ _ c.in-Ok-run.ensures.cause.later (c.in-Err-finish.ensures.cause.failed (ap Err (c.of_keeper-in-Err-finish.ensures.failed h)))))
     (found.0 ++ End ∷ []) found.2.legal (c.in-Err-finish.ensures.part _ found.0 found.1)

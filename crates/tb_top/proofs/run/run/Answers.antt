@@ -15,16 +15,26 @@ use Rattle.tb_top.specs.declared.run.RunErr.{RunErr}
 use Rattle.tb_top.specs.declared.run.RunErr.TheVariants.{NoMemory, WriteFailed}
 use Rattle.tb_top.proofs.run.run.Goals as goal
 
+abbrev out_of : (List Entry → List ℕ) → Experiment → List (List ℕ) → Plan → Option (List ℕ) → Option (List ℕ) → ℕ → ℕ → Result (Unit {0}) RunErr → Type 0
+out_of text e images p old new before now result = RunPuts text (rules machine_motion (setup e images) p) old new before now result
+
+-- a head of the run, by whose text it was put
 runs : (e : Experiment) (slots : List ℕ) (images : List (List ℕ)) (n : ℕ) (h : Head) (old new : Option (List ℕ)) (before now : ℕ) (result : Result (Unit {0}) RunErr) → IsHead e n h
-    → RunPuts (journal_text h) (run_rules e slots images n) old new before now result → Runs e slots images n old new before now result
+    → out_of (journal_text h) e images (plan e slots n) old new before now result → Runs e slots images n old new before now result
 runs e slots images n h old new before now (Ok x) head puts = (h, head, puts)
 runs e slots images n h old new before now (Err NoMemory) head puts = inr (h, head, puts)
 runs e slots images n h old new before now (Err WriteFailed) head puts = (puts.0, (h, head, puts.1))
 
 pub returns-clause-runs : goal.returns-clause-runs
 returns-clause-runs g c = λ slots images b tick plans.
-    let journal : entries_text c.new.keep.view c.new.keep.head ≡ journal_text c.head.value =
+    let e = c.args.e.now in
+    let old = g.O.Sink.taken c.args.out.now in
+    let new = g.O.Sink.taken c.put_run.new.out in
+    let before = g.O.Sink.faults c.args.out.now in
+    let now = g.O.Sink.faults c.put_run.new.out in
+    let journal : entries_text c.in-Ok-new.keep.view c.in-Ok-new.keep.head ≡ journal_text c.in-Ok.head =
     ap₂ entries_text c.in-Ok-new.ensures.view c.in-Ok-new.ensures.head in
-    runs c.args.e.now slots images c.args.host_ticks _ _ _ _ _ c.put_run.result c.in-Ok.ensures
-    (subst (λ (p : Plan). RunPuts _ (rules machine_motion (setup c.args.e.now images) p) _ _ _ _ c.put_run.result) plans
-    (subst (λ (t : List Entry → List ℕ). RunPuts t _ _ _ _ _ c.put_run.result) journal (c.put_run.ensures.puts (setup c.args.e.now images) b tick)))
+    runs e slots images c.args.host_ticks c.in-Ok.head old new before now c.put_run.result c.in-Ok.ensures
+    (subst (λ (p : Plan). out_of (journal_text c.in-Ok.head) e images p old new before now c.put_run.result) plans
+    (subst (λ (t : List Entry → List ℕ). out_of t e images (plan_of c.args.bench c.args.host_ticks) old new before now c.put_run.result) journal
+    (c.put_run.ensures.puts (setup e images) b tick)))
