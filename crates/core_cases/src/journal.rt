@@ -2,12 +2,12 @@
 ghost use Rattle.std.specs.Prelude.{◌≡◌, ◌<◌, length, IfOk};
 ghost use Rattle.host_journal.specs.Keepers.{head_of};
 
-use host_journal::{Head, JournalKeep, Keep, KeepErr, Quantum};
+use host_journal::{Head, JournalKeep, Keep, KeepErr, Quantum, Show};
 use std::alloc::Global;
 use std::test::Fail;
 use tb_base::{ItemList, Name};
 use tb_io::MemSink;
-use trace_rec::{Log, Rec, What};
+use trace_rec::{Log, Rec, View, What};
 
 /// The keeper of a run of so many host ticks, of so many guests on so many slots.
 pub(crate) fn keeper(
@@ -29,7 +29,7 @@ pub(crate) fn keeper(
         host_ticks,
         names,
     };
-    Ok(JournalKeep::new(alloc, head)?)
+    Ok(JournalKeep::new(alloc, head, View::Journal)?)
 }
 
 /// The record of a jump in place in the first tick.

@@ -18,3 +18,5 @@ mod sleeper;
 mod sleepers;
 #[cfg(test)]
 mod slots;
+#[cfg(test)]
+mod views;

@@ -1,1 +1,5 @@
+pub mod CountLemmas
+pub mod GuestLemmas
 pub mod StandingLemmas
+pub mod SummaryLemmas
+pub mod TraceLemmas

@@ -2,23 +2,18 @@
 use Rattle.std.proofs.Common.{◌≡◌, ℕ, List, [], ◌∷◌, ◌++◌, Option, Some, None, Bool, true, false, refl, sym, ap, ◌∙◌, subst, append_assoc, length, take, drop, get_or, ◌+◌, ◌<◌}
 use Rattle.std.proofs.lemmas.List.{append-nil, take_more, take-append-drop}
 use Rattle.std.proofs.lemmas.Grind.{flat_map-append}
-use Rattle.std.specs.List.{flat_map}
+use Rattle.std.specs.List.{filter, flat_map}
+use Rattle.std.proofs.lemmas.List.Elements.{filter-append}
+use Rattle.trace_rec.specs.Shown.{is_shown}
+use Rattle.trace_rec.specs.declared.view.View.{View}
 use Rattle.trace_rec.specs.declared.rec.Rec.{Rec}
 use Rattle.trace_rec.specs.Lines.{rec_line}
 use Rattle.tb_io.specs.Puts.{Takes, TakesPart}
-use Rattle.tb_io.proofs.Parts.{takes_more}
+use Rattle.tb_io.proofs.Parts.{takes_none, takes_more, part_more, part_longer}
 use Rattle.host_journal.specs.Standing.{Stands, Adds}
-use Rattle.host_journal.specs.Texts.{rec_lines, head_line, entry_lines, journal_text}
+use Rattle.host_journal.specs.Texts.{rec_lines, head_line, entry_lines, entries_text}
 use Rattle.host_journal.specs.Entries.{Entry}
 use Rattle.host_journal.specs.declared.head.Head.{Head}
-
-pub part_more : (a b c : Option (List ℕ)) (x y : List ℕ) → Takes a b x → TakesPart b c y → TakesPart a c (x ++ y)
-part_more a b c x y h k =
-    (x ++ k.0, record { rest = k.1.rest; whole = ap (λ z. x ++ z) k.1.whole ∙ sym (append_assoc x k.0 k.1.rest) }, takes_more a b c x k.0 h k.2)
-
-pub part_longer : (a b : Option (List ℕ)) (x y : List ℕ) → TakesPart a b x → TakesPart a b (x ++ y)
-part_longer a b x y k =
-    (k.0, record { rest = k.1.rest ++ y; whole = ap (λ z. z ++ y) k.1.whole ∙ append_assoc k.0 k.1.rest y }, k.2)
 
 -- nothing is put once something failed
 pub adds_nothing : (f : Bool) (a : Option (List ℕ)) (x : List ℕ) → f ≡ true → Adds f a f a x
@@ -51,50 +46,42 @@ adds_cut f false a b x y e p = absurd (cc)
 pub adds_none : (f : Bool) (a : Option (List ℕ)) → Adds f a f a []
 adds_none f a = λ before text s. subst (λ (z : List ℕ). Stands f before a z) (sym (append-nil text)) s
 
--- the lines of the first i + 1 records
-pub rec_lines_more : (guest : ℕ) (recs : List Rec) (i : ℕ) (r : Rec) → i < length recs → get_or recs i r ≡ r
-    → rec_lines guest (take (i + 1) recs) ≡ rec_lines guest (take i recs) ++ rec_line guest r
-rec_lines_more guest recs i r h same =
-    ap (rec_lines guest) (take_more recs i r h)
-    ∙ flat_map-append (rec_line guest) (take i recs) (get_or recs i r ∷ [])
-    ∙ ap (λ x. rec_lines guest (take i recs) ++ x) (append-nil (rec_line guest (get_or recs i r)) ∙ ap (rec_line guest) same)
+-- the lines of those of the first i + 1 records that a view shows
+pub shown_more : (v : View) (guest : ℕ) (recs : List Rec) (i : ℕ) (r : Rec) → i < length recs → get_or recs i r ≡ r
+    → rec_lines guest (filter (is_shown v) (take (i + 1) recs)) ≡ rec_lines guest (filter (is_shown v) (take i recs)) ++ rec_lines guest (filter (is_shown v) (r ∷ []))
+shown_more v guest recs i r h same =
+    ap (λ (x : List Rec). rec_lines guest (filter (is_shown v) x)) (take_more recs i r h ∙ ap (λ (x : Rec). take i recs ++ x ∷ []) same)
+    ∙ ap (rec_lines guest) (filter-append (is_shown v) (take i recs) (r ∷ []))
+    ∙ flat_map-append (rec_line guest) (filter (is_shown v) (take i recs)) (filter (is_shown v) (r ∷ []))
 
-pub recs_more : (f g h : Bool) (a b c : Option (List ℕ)) (guest : ℕ) (recs : List Rec) (i : ℕ) (r : Rec) → i < length recs → get_or recs i r ≡ r
-    → Adds f a g b (rec_lines guest (take i recs)) → Adds g b h c (rec_line guest r) → Adds f a h c (rec_lines guest (take (i + 1) recs))
-recs_more f g h a b c guest recs i r lt same p q =
-    subst (λ (z : List ℕ). Adds f a h c z) (sym (rec_lines_more guest recs i r lt same)) (adds_more f g h a b c _ _ p q)
+pub shown_added : (f g h : Bool) (a b c : Option (List ℕ)) (v : View) (guest : ℕ) (recs : List Rec) (i : ℕ) (r : Rec) → i < length recs → get_or recs i r ≡ r
+    → Adds f a g b (rec_lines guest (filter (is_shown v) (take i recs))) → Adds g b h c (rec_lines guest (filter (is_shown v) (r ∷ []))) → Adds f a h c (rec_lines guest (filter (is_shown v) (take (i + 1) recs)))
+shown_added f g h a b c v guest recs i r lt same p q =
+    subst (λ (z : List ℕ). Adds f a h c z) (sym (shown_more v guest recs i r lt same)) (adds_more f g h a b c _ _ p q)
 
-pub recs_cut : (f g h : Bool) (a b c : Option (List ℕ)) (guest : ℕ) (recs : List Rec) (i : ℕ) (r : Rec) → i < length recs → get_or recs i r ≡ r → h ≡ true
-    → Adds f a g b (rec_lines guest (take i recs)) → Adds g b h c (rec_line guest r) → Adds f a h c (rec_lines guest recs)
-recs_cut f g h a b c guest recs i r lt same failed p q =
-    let whole : rec_lines guest (take (i + 1) recs) ++ rec_lines guest (drop (i + 1) recs) ≡ rec_lines guest recs =
-    sym (flat_map-append (rec_line guest) (take (i + 1) recs) (drop (i + 1) recs)) ∙ ap (rec_lines guest) (take-append-drop (i + 1) recs) in
+pub shown_cut : (f g h : Bool) (a b c : Option (List ℕ)) (v : View) (guest : ℕ) (recs : List Rec) (i : ℕ) (r : Rec) → i < length recs → get_or recs i r ≡ r → h ≡ true
+    → Adds f a g b (rec_lines guest (filter (is_shown v) (take i recs))) → Adds g b h c (rec_lines guest (filter (is_shown v) (r ∷ []))) → Adds f a h c (rec_lines guest (filter (is_shown v) recs))
+shown_cut f g h a b c v guest recs i r lt same failed p q =
+    let whole : rec_lines guest (filter (is_shown v) (take (i + 1) recs)) ++ rec_lines guest (filter (is_shown v) (drop (i + 1) recs)) ≡ rec_lines guest (filter (is_shown v) recs) =
+    sym (flat_map-append (rec_line guest) (filter (is_shown v) (take (i + 1) recs)) (filter (is_shown v) (drop (i + 1) recs)))
+    ∙ ap (rec_lines guest) (sym (filter-append (is_shown v) (take (i + 1) recs) (drop (i + 1) recs)) ∙ ap (filter (is_shown v)) (take-append-drop (i + 1) recs)) in
     subst (λ (z : List ℕ). Adds f a h c z) whole
-    (adds_cut f h a c _ _ failed (recs_more f g h a b c guest recs i r lt same p q))
+    (adds_cut f h a c _ _ failed (shown_added f g h a b c v guest recs i r lt same p q))
 
-pub journal_text-append : (h : Head) (es : List Entry) (e : Entry) → journal_text h (es ++ e ∷ []) ≡ journal_text h es ++ entry_lines h e
-unfolding journal_text
-journal_text-append h es e =
-    ap (λ (x : List ℕ). head_line h ++ x) (flat_map-append (entry_lines h) es (e ∷ []) ∙ ap (λ (x : List ℕ). flat_map (entry_lines h) es ++ x) (append-nil (entry_lines h e)))
-    ∙ sym (append_assoc (head_line h) (flat_map (entry_lines h) es) (entry_lines h e))
+entries_text-append : (v : View) (h : Head) (es : List Entry) (e : Entry) → entries_text v h (es ++ e ∷ []) ≡ entries_text v h es ++ entry_lines v h e
+unfolding entries_text
+entries_text-append v h es e =
+    ap (λ (x : List ℕ). head_line h ++ x) (flat_map-append (entry_lines v h) es (e ∷ []) ∙ ap (λ (x : List ℕ). flat_map (entry_lines v h) es ++ x) (append-nil (entry_lines v h e)))
+    ∙ sym (append_assoc (head_line h) (flat_map (entry_lines v h) es) (entry_lines v h e))
 
 -- a call that adds an entry's lines adds the entry
-pub entry_added : (f g : Bool) (a b : Option (List ℕ)) (h : Head) (e : Entry) → Adds f a g b (entry_lines h e)
-    → (before : Option (List ℕ)) (es : List Entry) → Stands f before a (journal_text h es) → Stands g before b (journal_text h (es ++ e ∷ []))
-entry_added f g a b h e p before es s =
-    subst (λ (z : List ℕ). Stands g before b z) (sym (journal_text-append h es e)) (p before (journal_text h es) s)
-
-takes_none : (a : Option (List ℕ)) → Takes a a []
-takes_none None = tt
-takes_none (Some o) = ap Some (sym (append-nil o))
+pub entry_added : (f g : Bool) (a b : Option (List ℕ)) (v : View) (h : Head) (e : Entry) → Adds f a g b (entry_lines v h e)
+    → (before : Option (List ℕ)) (es : List Entry) → Stands f before a (entries_text v h es) → Stands g before b (entries_text v h (es ++ e ∷ []))
+entry_added f g a b v h e p before es s =
+    subst (λ (z : List ℕ). Stands g before b z) (sym (entries_text-append v h es e)) (p before (entries_text v h es) s)
 
 -- a journal that was begun
-pub stands_start : (f g : Bool) (a b : Option (List ℕ)) (h : Head) → f ≡ false → Adds f a g b (head_line h) → Stands g a b (journal_text h [])
-unfolding journal_text
-stands_start false g a b h e p = subst (λ (z : List ℕ). Stands g a b z) (sym (append-nil (head_line h))) (p a [] (takes_none a))
-stands_start true g a b h e p = absurd (cc)
-
--- what was taken is in any case a prefix of the text
-pub stands_part : (f : Bool) (before now : Option (List ℕ)) (text : List ℕ) → Stands f before now text → TakesPart before now text
-stands_part false before now text s = (text, record { rest = []; whole = sym (append-nil text) }, s)
-stands_part true before now text s = s
+pub stands_start : (f g : Bool) (a b : Option (List ℕ)) (v : View) (h : Head) → f ≡ false → Adds f a g b (head_line h) → Stands g a b (entries_text v h [])
+unfolding entries_text
+stands_start false g a b v h e p = subst (λ (z : List ℕ). Stands g a b z) (sym (append-nil (head_line h))) (p a [] (takes_none a))
+stands_start true g a b v h e p = absurd (cc)

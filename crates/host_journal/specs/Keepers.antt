@@ -1,8 +1,9 @@
 -- What a keeper of a journal is.
 use Rattle.std.specs.Prelude.{ℕ, List, Option, Bool}
+use Rattle.trace_rec.specs.declared.view.View.{View}
 use Rattle.host_journal.specs.Entries.{Entry}
 use Rattle.host_journal.specs.Standing.{Stands}
-use Rattle.host_journal.specs.Texts.{journal_text}
+use Rattle.host_journal.specs.Texts.{entries_text}
 use Rattle.host_journal.specs.declared.head.Head.{Head}
 use Rattle.host_journal.specs.declared.journal_keep.JournalKeep.{JournalKeep}
 
@@ -10,11 +11,22 @@ use Rattle.host_journal.specs.declared.journal_keep.JournalKeep.{JournalKeep}
 abbrev pub head_of : JournalKeep → Head
 head_of keep = keep.head
 
+abbrev pub view_of : JournalKeep → View
+view_of keep = keep.view
+
+-- what its text needs besides the entries
+abbrev pub heading_of : JournalKeep → Head × View
+heading_of keep = (head_of keep, view_of keep)
+
 -- whether a call of the keeper has failed
 abbrev pub has_failed : JournalKeep → Bool
 has_failed keep = keep.failed
 
+-- the text of a list of entries in the keeper's view
+abbrev pub text_of : JournalKeep → List Entry → List ℕ
+text_of keep es = entries_text (view_of keep) (head_of keep) es
+
 -- keeper and sink stand for these entries: since it told the bytes of before, the sink has taken
--- their journal's text, or a prefix of it where a call failed
+-- their text, or a prefix of it where a call failed
 abbrev pub StandsFor : JournalKeep → Option (List ℕ) → Option (List ℕ) → List Entry → Type 0
-StandsFor keep before now es = Stands (has_failed keep) before now (journal_text (head_of keep) es)
+StandsFor keep before now es = Stands (has_failed keep) before now (text_of keep es)

@@ -1,8 +1,11 @@
--- The text of a journal. Each line ends with one newline, and all its numbers are decimal.
+-- The text of a journal and of events. Each line ends with one newline, and all its numbers are decimal.
 use Rattle.std.specs.Prelude.{ℕ, List, ◌++◌, length, codes}
-use Rattle.std.specs.List.{flat_map}
+use Rattle.std.specs.List.{filter, flat_map}
 use Rattle.trace_rec.specs.Lines.{field, rec_line}
+use Rattle.trace_rec.specs.Shown.{is_shown}
 use Rattle.trace_rec.specs.declared.rec.Rec.{Rec}
+use Rattle.trace_rec.specs.declared.view.View.{View}
+use Rattle.trace_rec.specs.declared.view.View.TheVariants.{Journal}
 use Rattle.host_journal.specs.declared.quantum.Quantum.{Quantum}
 use Rattle.host_journal.specs.declared.head.Head.{Head}
 use Rattle.host_journal.specs.Entries.{Entry, Host, Slot, Ran, End}
@@ -36,13 +39,17 @@ end_line t = field (codes "end ") t ++ codes "\n"
 abbrev pub rec_lines : ℕ → List Rec → List ℕ
 rec_lines guest recs = flat_map (rec_line guest) recs
 
--- the lines of an entry
-abbrev pub entry_lines : Head → Entry → List ℕ
-entry_lines h (Host t) = host_line t
-entry_lines h (Slot s) = slot_line s
-entry_lines h (Ran q recs) = quantum_line q ++ rec_lines q.guest recs
-entry_lines h End = end_line h.host_ticks
+-- the lines of an entry, with those records that the view shows
+abbrev pub entry_lines : View → Head → Entry → List ℕ
+entry_lines v h (Host t) = host_line t
+entry_lines v h (Slot s) = slot_line s
+entry_lines v h (Ran q recs) = quantum_line q ++ rec_lines q.guest (filter (is_shown v) recs)
+entry_lines v h End = end_line h.host_ticks
 
--- a journal: the head line, and then the lines of each entry
-unfoldable pub journal_text : Head → List Entry → List ℕ
-journal_text h es = head_line h ++ flat_map (entry_lines h) es
+-- the journal, or the events: the head line, and then the lines of each entry
+unfoldable pub entries_text : View → Head → List Entry → List ℕ
+entries_text v h es = head_line h ++ flat_map (entry_lines v h) es
+
+-- a journal shows all records
+abbrev pub journal_text : Head → List Entry → List ℕ
+journal_text h es = entries_text Journal h es

@@ -1,26 +1,28 @@
-//! The keeper of a journal.
-ghost use Rattle.std.specs.Prelude.{◌≡◌, ◌<◌, ◌++◌, ℕ, List, [], ◌∷◌, Option, length, true, false, IfOk, OnOk, OnErr};
+//! The keeper of a journal and of events.
+ghost use Rattle.std.specs.Prelude.{◌≡◌, ◌⊎◌, ◌<◌, ◌++◌, ℕ, List, [], ◌∷◌, Option, length, true, false, IfOk, OnOk, OnErr};
+ghost use Rattle.tb_io.specs.Puts.{Takes, TakesPart};
 ghost use Rattle.host_journal.specs.Causes.{KeepCause};
 ghost use Rattle.host_journal.specs.Entries.{Entry, Host, Slot, Ran, End};
-ghost use Rattle.host_journal.specs.Keepers.{head_of, has_failed, StandsFor};
-ghost use Rattle.host_journal.specs.Standing.{Adds};
-ghost use Rattle.host_journal.specs.Texts.{rec_lines};
+ghost use Rattle.host_journal.specs.Keepers.{head_of, view_of, heading_of, has_failed, text_of, StandsFor};
 
 use crate::head::Head;
 use crate::keep::{Keep, KeepErr};
 use crate::lines::{put_end, put_head, put_host_tick, put_quantum, put_slot};
+use crate::put::{put_line, put_shown};
 use crate::quantum::Quantum;
+use crate::show::Show;
 use std::alloc::Global;
 use tb_base::{Bytes, NoMemory};
 use tb_io::Sink;
-use trace_rec::{Log, Rec, put_rec};
+use trace_rec::{Log, View};
 
-/// Puts the journal of a run to a sink, line by line. It stores no entry.
+/// Puts the journal of a run to a sink, or its events, line by line. It stores no entry.
 ///
 /// Once a call has failed, each later call fails too, with `NoMemory`, and puts nothing.
 #[derive(Drop)]
 pub struct JournalKeep {
     head: Head,
+    view: View,
     // the line that is made, which keeps its room from one line to the next
     line: Bytes,
     failed: bool,
@@ -28,113 +30,40 @@ pub struct JournalKeep {
 
 impl JournalKeep {
     /// A keeper of a run with this head.
-    pub fn new(alloc: Global, head: Head) -> Result<JournalKeep, NoMemory>
+    pub fn new(alloc: Global, head: Head, view: View) -> Result<JournalKeep, NoMemory>
+        requires { (view ≡ View.Journal) ⊎ (view ≡ View.Events) }
         ensures head { IfOk result (λ keep. head_of keep ≡ head) }
+        ensures view { IfOk result (λ keep. view_of keep ≡ view) }
         ensures fresh { IfOk result (λ keep. has_failed keep ≡ false) }
     {
         Ok(JournalKeep {
             head,
+            view,
             line: Bytes::new(alloc),
             failed: false,
         })
     }
-
-    /// Puts the head line. It is called once, before every other call.
-    pub fn start<O: Sink>(&mut self, out: &mut O) -> Result<(), KeepErr>
-        ensures stands { has_failed self.old ≡ false → StandsFor self.new (O.taken out.old) (O.taken out.new) [] }
-        ensures head { head_of self.new ≡ head_of self.old }
-        ensures ok { OnOk result ((has_failed self.old ≡ false) × (has_failed self.new ≡ false)) }
-        ensures err { OnErr result (has_failed self.new ≡ true) }
-        ensures stopped { has_failed self.old ≡ true → O.taken out.new ≡ O.taken out.old }
-        ensures cause { KeepCause (O.faults out.old) (O.faults out.new) result }
-    {
-        self.line.clear();
-        let made = put_head(&mut self.line, &self.head);
-        put_line(&mut self.failed, out, made, &self.line)
-    }
-
-    /// Puts the end line. It is called at most once, after every other call.
-    pub fn finish<O: Sink>(&mut self, out: &mut O) -> Result<(), KeepErr>
-        ensures stands { (before : Option (List ℕ)) (es : List Entry) → StandsFor self.old before (O.taken out.old) es
-            → StandsFor self.new before (O.taken out.new) (es ++ End ∷ []) }
-        ensures head { head_of self.new ≡ head_of self.old }
-        ensures ok { OnOk result ((has_failed self.old ≡ false) × (has_failed self.new ≡ false)) }
-        ensures err { OnErr result (has_failed self.new ≡ true) }
-        ensures stopped { has_failed self.old ≡ true → O.taken out.new ≡ O.taken out.old }
-        ensures cause { KeepCause (O.faults out.old) (O.faults out.new) result }
-    {
-        self.line.clear();
-        let made = put_end(&mut self.line, self.head.host_ticks);
-        put_line(&mut self.failed, out, made, &self.line)
-    }
-}
-
-/// Puts a line, if it was made and nothing failed before.
-fn put_line<O: Sink>(
-    failed: &mut bool,
-    out: &mut O,
-    made: Result<(), NoMemory>,
-    line: &Bytes,
-) -> Result<(), KeepErr>
-    ensures adds { (text : List ℕ) → OnOk made (line.now ≡ text) → Adds failed.old (O.taken out.old) failed.new (O.taken out.new) text }
-    ensures ok { OnOk result ((failed.old ≡ false) × (failed.new ≡ false)) }
-    ensures err { OnErr result (failed.new ≡ true) }
-    ensures stopped { failed.old ≡ true → O.taken out.new ≡ O.taken out.old }
-    ensures cause { KeepCause (O.faults out.old) (O.faults out.new) result }
-{
-    if *failed {
-        return Err(KeepErr::NoMemory);
-    }
-    if made.is_err() {
-        *failed = true;
-        return Err(KeepErr::NoMemory);
-    }
-    match out.put(line.as_slice()) {
-        Ok(()) => Ok(()),
-        Err(_) => {
-            *failed = true;
-            Err(KeepErr::Failed)
-        }
-    }
-}
-
-/// Puts the line of each record of a guest.
-fn put_recs<O: Sink>(
-    failed: &mut bool,
-    line: &mut Bytes,
-    out: &mut O,
-    guest: u32,
-    recs: &[Rec],
-) -> Result<(), KeepErr>
-    ensures adds { Adds failed.old (O.taken out.old) failed.new (O.taken out.new) (rec_lines guest recs.now) }
-    ensures ok { OnOk result (failed.old ≡ false → failed.new ≡ false) }
-    ensures err { OnErr result (failed.new ≡ true) }
-    ensures stopped { failed.old ≡ true → O.taken out.new ≡ O.taken out.old }
-    ensures cause { KeepCause (O.faults out.old) (O.faults out.new) result }
-{
-    for rec in recs {
-        line.clear();
-        let made = put_rec(line, guest, rec);
-        put_line(failed, out, made, line)?;
-    }
-    Ok(())
 }
 
 impl<O: Sink> Keep<O> for JournalKeep {
     ghost use Rattle.std.specs.Prelude.{length};
-    ghost use Rattle.host_journal.specs.Keepers.{head_of, StandsFor};
+    ghost use Rattle.trace_rec.specs.declared.view.View.{View};
+    ghost use Rattle.host_journal.specs.Keepers.{head_of, heading_of, StandsFor};
+    ghost use Rattle.host_journal.specs.declared.head.Head.{Head};
 
     ghost keeps = { StandsFor };
 
     ghost members = { λ keep. length (head_of keep).names.items };
 
-    ghost head = { head_of };
+    ghost Heading = { Head × View };
+
+    ghost head = { heading_of };
 
     fn host(&mut self, out: &mut O, t: u64) -> Result<(), KeepErr>
         ensures adds { (before : Option (List ℕ)) (es : List Entry) → StandsFor self.old before (O.taken out.old) es
             → StandsFor self.new before (O.taken out.new) (es ++ Host t ∷ []) }
         ensures members { length (head_of self.new).names.items ≡ length (head_of self.old).names.items }
-        ensures head { head_of self.new ≡ head_of self.old }
+        ensures head { heading_of self.new ≡ heading_of self.old }
         ensures cause { KeepCause (O.faults out.old) (O.faults out.new) result }
         ensures ok { OnOk result ((has_failed self.old ≡ false) × (has_failed self.new ≡ false)) }
         ensures err { OnErr result (has_failed self.new ≡ true) }
@@ -149,7 +78,7 @@ impl<O: Sink> Keep<O> for JournalKeep {
         ensures adds { (before : Option (List ℕ)) (es : List Entry) → StandsFor self.old before (O.taken out.old) es
             → StandsFor self.new before (O.taken out.new) (es ++ Slot s ∷ []) }
         ensures members { length (head_of self.new).names.items ≡ length (head_of self.old).names.items }
-        ensures head { head_of self.new ≡ head_of self.old }
+        ensures head { heading_of self.new ≡ heading_of self.old }
         ensures cause { KeepCause (O.faults out.old) (O.faults out.new) result }
         ensures ok { OnOk result ((has_failed self.old ≡ false) × (has_failed self.new ≡ false)) }
         ensures err { OnErr result (has_failed self.new ≡ true) }
@@ -165,7 +94,7 @@ impl<O: Sink> Keep<O> for JournalKeep {
         ensures adds { (before : Option (List ℕ)) (es : List Entry) → StandsFor self.old before (O.taken out.old) es
             → StandsFor self.new before (O.taken out.new) (es ++ Ran q.now recs.now.items ∷ []) }
         ensures members { length (head_of self.new).names.items ≡ length (head_of self.old).names.items }
-        ensures head { head_of self.new ≡ head_of self.old }
+        ensures head { heading_of self.new ≡ heading_of self.old }
         ensures cause { KeepCause (O.faults out.old) (O.faults out.new) result }
         ensures ok { OnOk result ((has_failed self.old ≡ false) × (has_failed self.new ≡ false)) }
         ensures err { OnErr result (has_failed self.new ≡ true) }
@@ -174,12 +103,61 @@ impl<O: Sink> Keep<O> for JournalKeep {
         self.line.clear();
         let made = put_quantum(&mut self.line, q);
         put_line(&mut self.failed, out, made, &self.line)?;
-        put_recs(
+        put_shown(
             &mut self.failed,
             &mut self.line,
             out,
+            self.view,
             q.guest,
             recs.as_slice(),
         )
+    }
+}
+
+impl<O: Sink> Show<O> for JournalKeep {
+    ghost use Rattle.std.specs.Prelude.{◌≡◌, false};
+    ghost use Rattle.std.proofs.Common.{ap};
+    ghost use Rattle.trace_rec.specs.declared.view.View.{View};
+    ghost use Rattle.host_journal.specs.Keepers.{head_of, view_of, has_failed, text_of};
+    ghost use Rattle.host_journal.specs.Parts.{stands_part};
+    ghost use Rattle.host_journal.specs.Texts.{entries_text};
+    ghost use Rattle.host_journal.specs.declared.head.Head.{Head};
+
+    ghost text = { text_of };
+
+    ghost is_fresh = { λ keep. has_failed keep ≡ false };
+
+    ghost part = { λ keep before now es stands. stands_part (has_failed keep) before now (text_of keep es) stands };
+
+    ghost same = { λ a b same. ap (λ (h : Head × View). entries_text h.1 h.0) same };
+
+    fn start(&mut self, out: &mut O) -> Result<(), KeepErr>
+        ensures stands { has_failed self.old ≡ false → StandsFor self.new (O.taken out.old) (O.taken out.new) [] }
+        ensures members { length (head_of self.new).names.items ≡ length (head_of self.old).names.items }
+        ensures head { heading_of self.new ≡ heading_of self.old }
+        ensures ok { OnOk result ((has_failed self.old ≡ false) × (has_failed self.new ≡ false)) }
+        ensures err { OnErr result (has_failed self.new ≡ true) }
+        ensures stopped { has_failed self.old ≡ true → O.taken out.new ≡ O.taken out.old }
+        ensures cause { KeepCause (O.faults out.old) (O.faults out.new) result }
+    {
+        self.line.clear();
+        let made = put_head(&mut self.line, &self.head);
+        put_line(&mut self.failed, out, made, &self.line)
+    }
+
+    fn finish(&mut self, out: &mut O) -> Result<(), KeepErr>
+        ensures whole { OnOk result ((before : Option (List ℕ)) (es : List Entry) → StandsFor self.old before (O.taken out.old) es
+            → Takes before (O.taken out.new) (text_of self.old (es ++ End ∷ []))) }
+        ensures part { (before : Option (List ℕ)) (es : List Entry) → StandsFor self.old before (O.taken out.old) es
+            → TakesPart before (O.taken out.new) (text_of self.old (es ++ End ∷ [])) }
+        ensures head { heading_of self.new ≡ heading_of self.old }
+        ensures ok { OnOk result ((has_failed self.old ≡ false) × (has_failed self.new ≡ false)) }
+        ensures err { OnErr result (has_failed self.new ≡ true) }
+        ensures stopped { has_failed self.old ≡ true → O.taken out.new ≡ O.taken out.old }
+        ensures cause { KeepCause (O.faults out.old) (O.faults out.new) result }
+    {
+        self.line.clear();
+        let made = put_end(&mut self.line, self.head.host_ticks);
+        put_line(&mut self.failed, out, made, &self.line)
     }
 }

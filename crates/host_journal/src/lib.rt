@@ -1,14 +1,25 @@
 //! What a run prints: the entries of a run, their texts, and the keepers that put them to a sink.
 #![tactic(auto)]
 
+mod counts;
+mod guest_lines;
 mod head;
 mod journal_keep;
 mod keep;
 mod lines;
+mod put;
 mod quantum;
+mod show;
+mod summary;
+mod summary_keep;
+mod trace_keep;
+mod traces;
 
 pub use head::Head;
 pub use journal_keep::JournalKeep;
 pub use keep::{Keep, KeepErr};
 pub use lines::{put_end, put_head, put_host_tick, put_quantum, put_slot};
 pub use quantum::Quantum;
+pub use show::Show;
+pub use summary_keep::SummaryKeep;
+pub use trace_keep::TraceKeep;

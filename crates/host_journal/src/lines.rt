@@ -70,7 +70,7 @@ pub fn put_end(out: &mut Bytes, t: u64) -> Result<(), NoMemory>
 
 /// Puts a word and a number, and ends the line.
 #[tactic(auto, using(tb_text::proofs::GrownLemmas::grown_trans))]
-fn put_last_field(out: &mut Bytes, word: &[u8], n: u64) -> Result<(), NoMemory>
+pub(crate) fn put_last_field(out: &mut Bytes, word: &[u8], n: u64) -> Result<(), NoMemory>
     ensures ok { OnOk result (out.new ≡ out.old ++ (field word.now n ++ codes "\n")) }
     ensures grown { IsGrown out.old out.new }
 {

@@ -1,21 +1,24 @@
-//! The run of a bench, as a journal.
+//! The run of a bench, in a view of it.
 ghost use Rattle.std.specs.Prelude.{◌≡◌, ◌≤◌, ℕ, List, map, length, false, IfOk, take};
 ghost use Rattle.exp_file.specs.declared.experiment.Experiment.{Experiment};
 ghost use Rattle.exp_file.specs.WellFormed.{IsWellFormed};
-ghost use Rattle.host_journal.specs.Keepers.{head_of, has_failed};
+ghost use Rattle.lookahead_core.specs.Synchronous.{Setup};
 ghost use Rattle.slot_sched.specs.BenchWords.{BenchStands, IsAtTick, plan_of, ticks_made, bench_failed, members_of};
 ghost use Rattle.slot_sched.specs.Legal.{start};
+ghost use Rattle.slot_sched.specs.Schedule.{rules};
 ghost use Rattle.bench_build.specs.Setups.{setup, plan};
-ghost use Rattle.tb_top.specs.Runs.{IsHead, Runs, RunCause};
+ghost use Rattle.tb_top.specs.Runs.{IsHead, RunPuts, Runs, RunCause};
 
 use dev_face::Device;
 use exp_file::{Experiment, GuestSpec};
 use guest_machine::Machine;
-use host_journal::{Head, JournalKeep, KeepErr};
+use host_journal::{Head, JournalKeep, KeepErr, Show};
+use lookahead_core::Node;
 use slot_sched::{Bench, TickFault};
 use std::alloc::Global;
 use tb_base::{ItemList, Name, NoMemory};
 use tb_io::Sink;
+use trace_rec::View;
 
 /// Why a run was cut short.
 #[derive(Clone, Copy)]
@@ -71,22 +74,21 @@ fn head_for(alloc: Global, e: &Experiment, host_ticks: u64) -> Result<Head, NoMe
     })
 }
 
-/// Puts the journal of a bench by a keeper that was just made.
-fn put_run<O: Sink, D: Device>(
-    keep: &mut JournalKeep,
-    bench: Bench<Machine<D>>,
+/// Runs a bench and puts what a keeper shows of it, which was just made.
+fn put_run<N: Node, O: Sink, K: Show<O>>(
+    keep: &mut K,
+    bench: Bench<N>,
     host_ticks: u64,
     out: &mut O,
 ) -> Result<(), RunErr>
     requires going { bench_failed bench ≡ false }
     requires fresh { ticks_made bench ≡ 0 }
     requires few { host_ticks ≤ 1000000 }
-    requires members { members_of bench ≤ length (head_of keep.old).names.items }
-    requires whole { has_failed keep.old ≡ false }
-    ensures runs { (e : Experiment) (slots : List ℕ) (images : List (List ℕ)) →
-        BenchStands (setup e images) bench host_ticks → IsAtTick (setup e images) bench host_ticks start → plan_of bench host_ticks ≡ plan e slots host_ticks →
-        IsHead e host_ticks (head_of keep.old) →
-        Runs e slots images host_ticks (O.taken out.old) (O.taken out.new) (O.faults out.old) (O.faults out.new) result }
+    requires members { members_of bench ≤ K.members keep.old }
+    requires made { K.is_fresh keep.old }
+    ensures puts { (x : Setup N.State) → BenchStands x bench host_ticks → IsAtTick x bench host_ticks start →
+        RunPuts (K.text keep.old) (rules N.motion x (plan_of bench host_ticks))
+        (O.taken out.old) (O.taken out.new) (O.faults out.old) (O.faults out.new) result }
     ensures cause { RunCause (O.faults out.old) (O.faults out.new) result }
 {
     let mut bench = bench;
@@ -127,7 +129,7 @@ pub(crate) fn run<O: Sink, D: Device>(
         Ok(head) => head,
         Err(_) => return Err(RunErr::NoMemory),
     };
-    let mut keep = match JournalKeep::new(alloc, head) {
+    let mut keep = match JournalKeep::new(alloc, head, View::Journal) {
         Ok(keep) => keep,
         Err(_) => return Err(RunErr::NoMemory),
     };

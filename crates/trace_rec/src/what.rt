@@ -1,6 +1,8 @@
 //! What a record tells.
+ghost use Rattle.std.specs.Prelude.{◌≡◌, IfOk};
 
-use tb_base::{Frame, Why};
+use std::alloc::Global;
+use tb_base::{Frame, NoMemory, Why};
 
 /// Something that happened in a tick of a guest.
 #[derive(Drop)]
@@ -60,4 +62,61 @@ pub enum What {
     },
     /// The machine halted.
     Halted,
+}
+
+impl What {
+    /// The same a second time.
+    pub fn copy(&self, alloc: Global) -> Result<What, NoMemory>
+        ensures { IfOk result (λ what. what ≡ self.now) }
+    {
+        Ok(match self {
+            What::Instr { pc, word } => What::Instr {
+                pc: *pc,
+                word: *word,
+            },
+            What::Trap { cause, pc } => What::Trap {
+                cause: *cause,
+                pc: *pc,
+            },
+            What::DiskDone {
+                disk,
+                kind,
+                sector,
+                bytes,
+                status,
+            } => What::DiskDone {
+                disk: *disk,
+                kind: *kind,
+                sector: *sector,
+                bytes: *bytes,
+                status: *status,
+            },
+            What::Sent { nic, frame } => What::Sent {
+                nic: *nic,
+                frame: frame.copy(alloc)?,
+            },
+            What::Dropped { nic, len } => What::Dropped {
+                nic: *nic,
+                len: *len,
+            },
+            What::BadFrame { nic, len } => What::BadFrame {
+                nic: *nic,
+                len: *len,
+            },
+            What::Received { nic, frame } => What::Received {
+                nic: *nic,
+                frame: frame.copy(alloc)?,
+            },
+            What::Backlogged { nic, len } => What::Backlogged {
+                nic: *nic,
+                len: *len,
+            },
+            What::Uart { byte } => What::Uart { byte: *byte },
+            What::Broken { slot, why } => What::Broken {
+                slot: *slot,
+                why: *why,
+            },
+            What::Halted => What::Halted,
+        })
+    }
 }
