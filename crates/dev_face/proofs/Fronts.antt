@@ -1,5 +1,5 @@
 -- Lists that stand in front of others.
-use Rattle.std.proofs.Common.{◌≡◌, ℕ, ◌≤◌, List, [], ◌∷◌, ◌++◌, length, take, min, sym, ◌∙◌, ap, arith}
+use Rattle.std.proofs.Common.{◌≡◌, ◌≤◌, List, [], ◌∷◌, ◌++◌, length, take, min, sym, ◌∙◌, ap, arith}
 use Rattle.std.proofs.lemmas.List.{length-take, take-take, take_all, take-append-le}
 use Rattle.dev_face.specs.States.{StaysInFront}
 

@@ -30,6 +30,8 @@ none_wanting few w kind.Clint wanted had p q (quiet, (name, (t, command, (b, rea
     omega (arith, p, short.2, few b (without_room e) says)
 none_wanting few w kind.Uart wanted had p q (quiet, (name, (t, command, (b, read, (e, says, (fits, (run, (images, loaded, short)))))))) =
     omega (arith, q, short.2, few b (without_room e) says)
+none_wanting few w kind.Blk wanted had p q (quiet, (name, (t, command, (b, read, (e, says, (fits, (run, (images, loaded, short)))))))) = absurd short
+none_wanting few w kind.Net wanted had p q (quiet, (name, (t, command, (b, read, (e, says, (fits, (run, (images, loaded, short)))))))) = absurd short
 
 pub supplied : FewGuests → (w : World) (s : Status) (k : Kind) (wanted had : ℕ) → w.stock.0 ≡ 32 → w.stock.1 ≡ 32 → Ends w s → s ≡ Build (build.NoDevice k wanted had) → ⊥
 supplied few w s k wanted had p q ends same = none_wanting few w k wanted had p q (subst (λ z. Ends w z) same ends)

@@ -79,6 +79,8 @@ supplied w e kind.Uart wanted had may enough short =
     let k = said w _ short in
     fewer_not (length k.experiment.guests.items) (length e.guests.items) w.stock.1 (sym (ap (λ (x : Experiment). length x.guests.items) (says_same w (Run may.host_ticks) e _ may.asks k)))
     enough.uarts_suffice k.holds.1.1.2.2
+supplied w e kind.Blk wanted had may enough short = absurd (said w _ short).holds.1.1.2
+supplied w e kind.Net wanted had may enough short = absurd (said w _ short).holds.1.1.2
 
 -- where neither memory nor a file nor the output failed, the run is done
 pub done_undisturbed : (w : World) (s : Status) (e : Experiment) → Ends w s → MayRun w.words w.held e → Suffices (length e.guests.items) w.stock.0 w.stock.1 → IsUndisturbed s → s ≡ Done

@@ -81,6 +81,8 @@ image_words (image.Elf fault) = elf_word fault ++ header_words fault
 abbrev pub kind_word : Kind → List ℕ
 kind_word kind.Clint = codes "clint"
 kind_word kind.Uart = codes "uart"
+kind_word kind.Blk = codes "blk"
+kind_word kind.Net = codes "net"
 
 unfoldable pub build_words : BuildFault → List ℕ
 build_words (build.Image guest fault) = codes "image " ++ decimal guest ++ image_words fault

@@ -218,6 +218,8 @@ fn kind_word(kind: Kind) -> &'static str
     match kind {
         Kind::Clint => "clint",
         Kind::Uart => "uart",
+        Kind::Blk => "blk",
+        Kind::Net => "net",
     }
 }
 
