@@ -1,15 +1,14 @@
 //! Commands with boxes of the program's own.
-ghost use Rattle.std.specs.Prelude.{◌≡◌, ◌≢◌, ◌⊎◌, ◌+◌, ℕ, All, map, length, string_bytes, OnOk, IfOk};
+ghost use Rattle.std.specs.Prelude.{◌≡◌, ◌≢◌, ◌⊎◌, ◌+◌, ℕ, All, map, length, OnOk, IfOk};
 ghost use Rattle.tb_io.specs.Causes.{Rose};
 ghost use Rattle.exp_file.specs.declared.experiment.Experiment.{Experiment};
-ghost use Rattle.host_plan.specs.Placing.{placed};
 ghost use Rattle.dev_face.specs.States.{IsBlankFor};
 ghost use Rattle.dev_face.specs.declared.kind.Kind.{Kind};
 ghost use Rattle.bench_build.specs.declared.build_fault.BuildFault.TheVariants as build;
-ghost use Rattle.tb_top.specs.Ends.{Ends, world, AsksPlan, MayRun};
+ghost use Rattle.tb_top.specs.Ends.{Ends, IsPlanned, MayRun};
 ghost use Rattle.tb_top.specs.Headline.{Headline};
 ghost use Rattle.tb_top.specs.Lines.{Told};
-ghost use Rattle.tb_top.specs.Plans.{Plans};
+ghost use Rattle.tb_top.specs.World.{texts, world};
 
 use clint_dev::Clint;
 use dev_face::{DevConfig, Device};
@@ -47,17 +46,13 @@ pub(crate) fn run_with<F: Files, O: Sink, M: Sink>(
     out: &mut O,
     msg: &mut M,
 ) -> Result<Status, NoMemory>
-    ensures ends { IfOk result (Ends (world (map string_bytes words.now) (F.held files.old) (F.faults files.old) (F.faults files.new) (F.fault_name files.new)
-        (O.taken out.old) (O.taken out.new) (O.faults out.old) (O.faults out.new) 32 32)) }
-    ensures headline { IfOk result (Headline (world (map string_bytes words.now) (F.held files.old) (F.faults files.old) (F.faults files.new) (F.fault_name files.new)
-        (O.taken out.old) (O.taken out.new) (O.faults out.old) (O.faults out.new) 32 32)) }
+    ensures ends { IfOk result (Ends (world (texts words.now) F.Files files.old files.new O.Sink out.old out.new (32, 32))) }
+    ensures headline { IfOk result (Headline (world (texts words.now) F.Files files.old files.new O.Sink out.old out.new (32, 32))) }
 
     // There are boxes for each experiment that may run.
-    ensures complete { (e : Experiment) → MayRun (map string_bytes words.now) (F.held files.old) e
-        → ¬ Rose (F.faults files.old) (F.faults files.new) → ¬ Rose (O.faults out.old) (O.faults out.new)
-        → IfOk result (λ status. (status ≡ Status.Done) ⊎ (status ≡ Status.Memory)) }
-    ensures planned { (e : Experiment) → AsksPlan (map string_bytes words.now) (F.held files.old) e → ¬ Rose (F.faults files.old) (F.faults files.new)
-        → IfOk result (Plans e (placed e) (O.taken out.old) (O.taken out.new) (O.faults out.old) (O.faults out.new)) }
+    ensures complete { (e : Experiment) → MayRun (texts words.now) (F.held files.old) e → ¬ Rose (F.faults files.old) (F.faults files.new) →
+        ¬ Rose (O.faults out.old) (O.faults out.new) → IfOk result (λ status. (status ≡ Status.Done) ⊎ (status ≡ Status.Memory)) }
+    ensures planned { IfOk result (IsPlanned (world (texts words.now) F.Files files.old files.new O.Sink out.old out.new (32, 32))) }
     ensures told { IfOk result (λ status. Told status (M.taken msg.old) (M.taken msg.new) (M.faults msg.old) (M.faults msg.new)) }
 
     // No command asks for a device that is not there.

@@ -1,9 +1,6 @@
-pub mod Asked
-pub mod Complete
-pub mod Ending
+pub mod Claims
+pub mod Endings
 pub mod Few
-pub mod Headline
 pub mod Images
-pub mod Planned
 pub mod Putting
 pub mod Room

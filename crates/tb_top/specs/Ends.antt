@@ -1,5 +1,5 @@
 -- How a command may end, and what stands then.
-use Rattle.std.specs.Prelude.{◌≡◌, ℕ, ◌<◌, ◌≤◌, ◌⊎◌, List, length, Option, IfSome, Result, Ok, Err, Some, slice_get}
+use Rattle.std.specs.Prelude.{◌≡◌, ℕ, ◌≤◌, ◌⊎◌, List, length, Option, Some, Err, slice_get}
 use Rattle.tb_io.specs.Causes.{Rose}
 use Rattle.exp_file.specs.Reading.{reading}
 use Rattle.exp_file.specs.declared.experiment.Experiment.{Experiment}
@@ -7,148 +7,78 @@ use Rattle.exp_file.specs.declared.guest_spec.GuestSpec.{GuestSpec}
 use Rattle.host_plan.specs.Fits.{Fits, IsFirstOverload}
 use Rattle.host_plan.specs.Placing.{placed}
 use Rattle.plan_text.specs.Puts.{PutsPlan, PutsPlanPart}
-use Rattle.host_plan.specs.declared.overload.Overload.{Overload as Over}
-use Rattle.bench_build.specs.Answers.{IsTaken, IsFault}
-use Rattle.bench_build.specs.Stocks.{Suffices, IsShort}
-use Rattle.bench_build.specs.declared.build_fault.BuildFault.{BuildFault}
-use Rattle.bench_build.specs.declared.build_fault.BuildFault.TheVariants as build
-use Rattle.tb_top.specs.declared.fetch.Missed.{Missed}
-use Rattle.tb_top.specs.declared.fetch.Missed.TheVariants as missed
-use Rattle.tb_top.specs.declared.load.LoadErr.{LoadErr}
-use Rattle.tb_top.specs.declared.load.LoadErr.TheVariants as load
-use Rattle.tb_top.specs.declared.status.FileId.{FileId}
+use Rattle.bench_build.specs.Answers.{IsTaken}
+use Rattle.bench_build.specs.Stocks.{Suffices}
 use Rattle.tb_top.specs.declared.status.FileId.TheVariants as file
 use Rattle.tb_top.specs.declared.status.Status.{Status}
-use Rattle.tb_top.specs.declared.status.Status.TheVariants.{Done, Overload, Usage, Experiment as Refused, Build, TooLong, ReadFault, WriteFault, Memory}
-use Rattle.tb_top.specs.Loads.{IsRefused}
-use Rattle.tb_top.specs.Reads.{IsRead, Says, AreLoaded, Stops, experiment_limit, image_limit}
-use Rattle.tb_top.specs.Runs.{PutsAll, PutsPart}
-use Rattle.tb_top.specs.Words.{Gives, IsCommand}
+use Rattle.tb_top.specs.declared.status.Status.TheVariants.{Done, Overload, Usage, Experiment as Refused, TooLong, ReadFault, WriteFault, Memory}
 use Rattle.tb_top.specs.declared.words.Task.{Task}
 use Rattle.tb_top.specs.declared.words.Task.TheVariants.{Run, Plan}
+use Rattle.tb_top.specs.Benches.{Unbuilt, PutsRun, PutsRunPart}
+use Rattle.tb_top.specs.Plans.{Plans}
+use Rattle.tb_top.specs.Reads.{IsRead, HasRead, IsTooLong, FailedAt, Says, experiment_limit, image_limit}
+use Rattle.tb_top.specs.Words.{Gives, IsCommand}
+use Rattle.tb_top.specs.World.{FilesSeen, World, Quiet}
 
--- all that the clause of the top call speaks of: the words, what the files tell, the faults of the files and of out
--- before and after the call, the fault name of the files after it, the bytes that out tells before and after it, and how many
--- Clints and Uarts the stock has
-pub record World : Type 0 where
-  pub words : List (List ℕ)
-  pub held : List ℕ → Option (List ℕ)
-  pub file_faults : ℕ × ℕ
-  pub fault_name : List ℕ
-  pub taken : Option (List ℕ) × Option (List ℕ)
-  pub out_faults : ℕ × ℕ
-  pub stock : ℕ × ℕ
+-- the words ask for some task with the experiment in a file, and this holds of its name
+pub record Names (words : List (List ℕ)) (P : List ℕ → Type 0) : Type 0 where
+  pub name : List ℕ
+  pub task : Task
+  pub command : IsCommand words name task
+  pub holds : P name
 
-abbrev pub world : List (List ℕ) → (List ℕ → Option (List ℕ)) → ℕ → ℕ → List ℕ → Option (List ℕ) → Option (List ℕ) → ℕ → ℕ → ℕ → ℕ → World
-world words held f0 f1 name t0 t1 o0 o1 clints uarts =
-    record { words = words; held = held; file_faults = (f0, f1); fault_name = name; taken = (t0, t1); out_faults = (o0, o1); stock = (clints, uarts) }
+-- what a status says where there is no experiment: the words are refused, or their file is too long, or its read failed, or it is refused
+abbrev pub Refuses : List (List ℕ) → FilesSeen → FilesSeen → Status → Type 0
+Refuses words old new (Usage f) = Gives words (Err f)
+Refuses words old new (TooLong file.Experiment) = Names words (λ name. IsTooLong (old.held name) experiment_limit)
+Refuses words old new (ReadFault file.Experiment) = Names words (FailedAt old new)
+Refuses words old new (Refused f) = Names words (λ name. HasRead (old.held name) experiment_limit (λ b. reading b ≡ Err f))
+Refuses words old new _ = ⊥
 
--- The steps of a command, each with a fact about what it leads to.
+-- the words ask for this task, and the bytes that were read of their file say this experiment
+pub record IsAsked (words : List (List ℕ)) (held : List ℕ → Option (List ℕ)) (task : Task) (e : Experiment) : Type 0 where
+  pub name : List ℕ
+  pub bytes : List ℕ
+  pub command : IsCommand words name task
+  pub read : IsRead (held name) experiment_limit bytes
+  pub says : Says bytes e
 
--- the words ask for this task with the experiment in this file
-abbrev pub Commanded : World → (List ℕ → Task → Type 0) → Type 0
-Commanded w P = (name : List ℕ) × ((task : Task) × IsCommand w.words name task × P name task)
-
--- the file was read, and has these bytes
-abbrev pub FileRead : World → (Task → List ℕ → Type 0) → Type 0
-FileRead w P = Commanded w (λ name t. (b : List ℕ) × IsRead (w.held name) experiment_limit b × P t b)
-
--- they say this experiment
-abbrev pub WellFormed : World → (Task → Experiment → Type 0) → Type 0
-WellFormed w P = FileRead w (λ t b. (e : Experiment) × Says b e × P t e)
-
--- its placement fits
-abbrev pub Placed : World → (Task → Experiment → Type 0) → Type 0
-Placed w P = WellFormed w (λ t e. Fits e (placed e) × P t e)
-
--- it is to be run, the images before that of guest i were taken, and of that guest something holds
-abbrev pub IsToRun : Task → Type 0
-IsToRun (Run n) = Unit {0}
-IsToRun Plan = ⊥
-
-abbrev pub AtImage : World → ℕ → (GuestSpec → Type 0) → Type 0
-AtImage w i P = Placed w (λ t e. IsToRun t × Stops w.held e.guests.items i P)
-
--- a file is told to be longer than its limit, or nothing is told of it
-abbrev pub IsTooLong : World → ℕ → List ℕ → Type 0
-IsTooLong w limit name = IfSome (w.held name) (λ t. limit < length t)
-
--- the count of the files rose, and the fault name is that of this file
-abbrev pub FailedAt : World → List ℕ → Type 0
-FailedAt w name = Rose w.file_faults.0 w.file_faults.1 × (w.fault_name ≡ name)
-
--- out has taken nothing
-abbrev pub Quiet : World → Type 0
-Quiet w = w.taken.1 ≡ w.taken.0
-
--- all images were taken
-abbrev pub Loaded : World → Experiment → (List (List ℕ) → Type 0) → Type 0
-Loaded w e P = (images : List (List ℕ)) × AreLoaded w.held e.guests.items images × P images
-
--- it is to be run, all images were taken, and there are too few devices of this kind
-abbrev pub Unsupplied : World → BuildFault → Type 0
-Unsupplied w f = Placed w (λ t e. IsToRun t × Loaded w e (λ images. IsShort (length e.guests.items) w.stock.0 w.stock.1 f))
-
--- all images were taken, and each guest has its devices
-abbrev pub Built : World → Experiment → (List (List ℕ) → Type 0) → Type 0
-Built w e P = Loaded w e (λ images. Suffices (length e.guests.items) w.stock.0 w.stock.1 × P images)
-
--- out has taken all of what the words ask for: the text of a complete legal journal of the run, or the plan
+-- out has taken all of a task: the text of a complete legal journal of the run, or the plan
 abbrev pub PutsTask : World → Task → Experiment → Type 0
-PutsTask w (Run n) e = Built w e (λ images. PutsAll e (placed e) images n w.taken.0 w.taken.1)
-PutsTask w Plan e = PutsPlan e (placed e) w.taken.0 w.taken.1
+PutsTask w (Run n) e = PutsRun w n e
+PutsTask w Plan e = PutsPlan e (placed e) w.out.taken w.out_after.taken
 
 -- or a prefix: of the text of a legal journal of a run whose placement fits, or of the plan
 abbrev pub PutsTaskPart : World → Task → Experiment → Type 0
-PutsTaskPart w (Run n) e = Fits e (placed e) × Built w e (λ images. PutsPart e (placed e) images n w.taken.0 w.taken.1)
-PutsTaskPart w Plan e = PutsPlanPart e (placed e) w.taken.0 w.taken.1
+PutsTaskPart w (Run n) e = Fits e (placed e) × PutsRunPart w n e
+PutsTaskPart w Plan e = PutsPlanPart e (placed e) w.out.taken w.out_after.taken
 
 -- what out has taken where the placement does not fit: nothing of a run, and the plan
 abbrev pub PutsOver : World → Task → Experiment → Type 0
 PutsOver w (Run n) e = Quiet w
-PutsOver w Plan e = PutsPlan e (placed e) w.taken.0 w.taken.1
+PutsOver w Plan e = PutsPlan e (placed e) w.out.taken w.out_after.taken
 
-abbrev pub IsAllPut : World → Type 0
-IsAllPut w = Placed w (PutsTask w)
+-- what a status says of a task with an experiment
+abbrev pub TaskEnds : World → Task → Experiment → Status → Type 0
+TaskEnds w task e Done = Fits e (placed e) × PutsTask w task e
+TaskEnds w task e (Overload slot need have) = IsFirstOverload e (placed e) (record { slot = slot; need = need; have = have }) × PutsOver w task e
+TaskEnds w task e WriteFault = Rose w.out.faults w.out_after.faults × PutsTaskPart w task e
+TaskEnds w task e Memory = PutsTaskPart w task e
+TaskEnds w (Run n) e s = Quiet w × Fits e (placed e) × Unbuilt w e s
+TaskEnds w Plan e s = ⊥
 
-abbrev pub IsPartPut : World → Type 0
-IsPartPut w = WellFormed w (PutsTaskPart w)
+-- what a status says: nothing was put, and memory ran out, or there is no experiment; or the words ask for an experiment, and so the task with it ended
+pub data Ends (w : World) : Status → Type 0 where
+  no_memory : Quiet w → Ends w Memory
+  no_experiment : {s : Status} → Quiet w → Refuses w.words w.files w.files_after s → Ends w s
+  ended : {s : Status} (task : Task) (e : Experiment) → IsAsked w.words w.files.held task e → TaskEnds w task e s → Ends w s
 
--- what a status says
-abbrev pub Ends : World → Status → Type 0
-Ends w (Usage f) = Quiet w × Gives w.words (Err f)
-Ends w (TooLong file.Experiment) = Quiet w × Commanded w (λ name t. IsTooLong w experiment_limit name)
-Ends w (ReadFault file.Experiment) = Quiet w × Commanded w (λ name t. FailedAt w name)
-Ends w (Refused f) = Quiet w × FileRead w (λ t b. reading b ≡ Err f)
-Ends w (Overload slot need have) = WellFormed w (λ t e. IsFirstOverload e (placed e) (record { slot = slot; need = need; have = have }) × PutsOver w t e)
-Ends w (TooLong (file.Image i)) = Quiet w × AtImage w i (λ g. IsTooLong w image_limit g.image)
-Ends w (ReadFault (file.Image i)) = Quiet w × AtImage w i (λ g. FailedAt w g.image)
-Ends w (Build (build.Image i fault)) = Quiet w × AtImage w i (IsRefused w.held (λ g b. IsFault g b fault))
-Ends w (Build (build.NoDevice kind wanted had)) = Quiet w × Unsupplied w (build.NoDevice kind wanted had)
-Ends w Done = IsAllPut w
-Ends w WriteFault = Rose w.out_faults.0 w.out_faults.1 × IsPartPut w
-Ends w Memory = Quiet w ⊎ IsPartPut w
-Ends w _ = ⊥
-
--- the status of a file that gave no bytes, of a bench that was not built, and of images that were not taken
-abbrev pub missed_status : FileId → Missed → Status
-missed_status f missed.Failed = ReadFault f
-missed_status f missed.TooLong = TooLong f
-missed_status f missed.NoMemory = Memory
-
-abbrev pub build_status : BuildFault → Status
-build_status build.NoMemory = Memory
-build_status (build.Image i fault) = Build (build.Image i fault)
-build_status (build.NoDevice kind wanted had) = Build (build.NoDevice kind wanted had)
-
-abbrev pub load_status : LoadErr → Status
-load_status (load.Missed i m) = missed_status (file.Image i) m
-load_status (load.Build fault) = build_status fault
-
--- the status of a command that is at its end, by whether the placement fits
-abbrev pub fit_status : Result (Unit {0}) Over → Status
-fit_status (Ok _) = Done
-fit_status (Err o) = Overload o.slot o.need o.have
+-- out has taken a prefix of what the words ask for
+pub record IsPartPut (w : World) : Type 0 where
+  pub task : Task
+  pub experiment : Experiment
+  pub asked : IsAsked w.words w.files.held task experiment
+  pub part : PutsTaskPart w task experiment
 
 -- the images of the guests are told and within their limit, and each is taken
 abbrev pub AreTold : (List ℕ → Option (List ℕ)) → List GuestSpec → Type 0
@@ -174,3 +104,20 @@ pub record MayRun (words : List (List ℕ)) (held : List ℕ → Option (List �
   pub asks : Asks words held (Run host_ticks) e
   pub fits : Fits e (placed e)
   pub images : AreTold held e.guests.items
+
+-- no file was at fault, and no put to out failed
+abbrev pub FilesServed : World → Type 0
+FilesServed w = ¬ Rose w.files.faults w.files_after.faults
+
+abbrev pub OutServed : World → Type 0
+OutServed w = ¬ Rose w.out.faults w.out_after.faults
+
+-- where all that is told is right, there are devices enough, and nothing fails, a run comes to its end, or finds no memory
+abbrev pub Completes : World → Status → Type 0
+Completes w s = (e : Experiment) → MayRun w.words w.files.held e → Suffices (length e.guests.items) w.stock.0 w.stock.1 →
+    FilesServed w → OutServed w → (s ≡ Done) ⊎ (s ≡ Memory)
+
+-- where the file of a plan is told and right and no file fails, the plan is put and the status says whether it fits, but for a failed put and
+-- want of memory
+abbrev pub IsPlanned : World → Status → Type 0
+IsPlanned w s = (e : Experiment) → AsksPlan w.words w.files.held e → FilesServed w → Plans e (placed e) w.out w.out_after s

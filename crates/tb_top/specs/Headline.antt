@@ -16,11 +16,13 @@ use Rattle.host_journal.specs.declared.head.Head.{Head}
 use Rattle.slot_sched.specs.Legal.{IsComplete}
 use Rattle.bench_build.specs.Setups.{setup, run_rules}
 use Rattle.bench_build.specs.Stocks.{Suffices}
-use Rattle.tb_top.specs.Ends.{World, Asks, MayRun, Quiet, IsPartPut}
+use Rattle.tb_top.specs.Ends.{Asks, MayRun, IsPartPut}
 use Rattle.tb_top.specs.Reads.{AreLoaded}
 use Rattle.tb_top.specs.Runs.{IsHead}
+use Rattle.tb_top.specs.Statuses.{over_status}
+use Rattle.tb_top.specs.World.{World, Quiet}
 use Rattle.tb_top.specs.declared.status.Status.{Status}
-use Rattle.tb_top.specs.declared.status.Status.TheVariants.{Done, Overload, TooLong, ReadFault, WriteFault, Memory}
+use Rattle.tb_top.specs.declared.status.Status.TheVariants.{Done, TooLong, ReadFault, WriteFault, Memory}
 use Rattle.tb_top.specs.declared.words.Task.{Task}
 use Rattle.tb_top.specs.declared.words.Task.TheVariants.{Run}
 
@@ -32,14 +34,10 @@ IsUndisturbed (ReadFault f) = ⊥
 IsUndisturbed WriteFault = ⊥
 IsUndisturbed _ = Unit {0}
 
--- the status that tells of a slot that is over
-abbrev pub overload : Over → Status
-overload o = Overload o.slot o.need o.have
-
 -- the placement is accepted where each slot's shares fit its capacity times the factor, and else the first slot that is over is told
 pub record IsJudged (e : Experiment) (s : Status) : Type 0 where
-  pub accepted : Fits e (placed e) → (o : Over) → s ≡ overload o → ⊥
-  pub refused : ¬ Fits e (placed e) → (o : Over) × IsFirstOverload e (placed e) o × (s ≡ overload o)
+  pub accepted : Fits e (placed e) → (o : Over) → s ≡ over_status o → ⊥
+  pub refused : ¬ Fits e (placed e) → (o : Over) × IsFirstOverload e (placed e) o × (s ≡ over_status o)
 
 -- the records that some entries print of guest g are its trace in the synchronous system up to some virtual tick, at least t / factor. It is the count that was
 -- printed last of the guest, and what the units printed of it pay for, so the entries fix it
@@ -53,11 +51,11 @@ pub record IsTraced (e : Experiment) (images : List (List ℕ)) (t g : ℕ) (es 
 -- of a run of n host ticks, out has taken the text of a journal. Its schedule is legal and comes to its end, and after every host tick each guest is traced
 pub record IsPrinted (w : World) (n : ℕ) (e : Experiment) : Type 0 where
   pub images : List (List ℕ)
-  pub loaded : AreLoaded w.held e.guests.items images
+  pub loaded : AreLoaded w.files.held e.guests.items images
   pub head : Head
   pub head_is : IsHead e n head
   pub journal : List Entry
-  pub text : Takes w.taken.0 w.taken.1 (journal_text head journal)
+  pub text : Takes w.out.taken w.out_after.taken (journal_text head journal)
   pub schedule : IsComplete (run_rules e (placed e) images n) journal
   pub traces : (t : ℕ) → t ≤ n → (g : ℕ) → g < length e.guests.items → IsTraced e images t g (up_to_tick t journal)
 
@@ -65,8 +63,8 @@ pub record IsPrinted (w : World) (n : ℕ) (e : Experiment) : Type 0 where
 -- suffice is done; what it then printed; what was printed where memory or the output failed, nothing or a first part of a legal journal or of the plan; and
 -- only where a write fault is told may a put to the output have failed
 pub record Headline (w : World) (s : Status) : Type 0 where
-  pub accepted : (task : Task) (e : Experiment) → Asks w.words w.held task e → IsUndisturbed s → IsJudged e s
-  pub runs : (e : Experiment) → MayRun w.words w.held e → Suffices (length e.guests.items) w.stock.0 w.stock.1 → IsUndisturbed s → s ≡ Done
-  pub printed : (n : ℕ) (e : Experiment) → Asks w.words w.held (Run n) e → s ≡ Done → IsPrinted w n e
+  pub accepted : (task : Task) (e : Experiment) → Asks w.words w.files.held task e → IsUndisturbed s → IsJudged e s
+  pub runs : (e : Experiment) → MayRun w.words w.files.held e → Suffices (length e.guests.items) w.stock.0 w.stock.1 → IsUndisturbed s → s ≡ Done
+  pub printed : (n : ℕ) (e : Experiment) → Asks w.words w.files.held (Run n) e → s ≡ Done → IsPrinted w n e
   pub cut_short : (s ≡ Memory) ⊎ (s ≡ WriteFault) → Quiet w ⊎ IsPartPut w
-  pub unfailed : s ≢ WriteFault → w.out_faults.1 ≡ w.out_faults.0
+  pub unfailed : s ≢ WriteFault → w.out_after.faults ≡ w.out.faults

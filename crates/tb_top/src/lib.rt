@@ -1,7 +1,8 @@
 //! The top call: from a command's words to its lines and its status.
 #![tactic(auto)]
 
-mod fetch;
+mod ask;
+mod fault_words;
 mod load;
 mod report;
 mod run;

@@ -1,14 +1,14 @@
 //! The line of a status.
 ghost use Rattle.std.specs.Prelude.{◌≡◌, ◌++◌, ◌⊎◌, ℕ, map, take, IfOk, OnOk, true};
 ghost use Rattle.std.specs.Fmt.{decimal};
-ghost use Rattle.tb_top.specs.Lines.{status_line, is_made, why_word, section_word, usage_word, file_words, fault_words, build_words, kind_word, image_words, elf_word, header_words, shown_key, shown_byte, SaysLine, Told};
+ghost use Rattle.tb_top.specs.Lines.{file_words, fault_words, build_words, image_words, header_words, shown_key, shown_byte};
+ghost use Rattle.tb_top.specs.Lines.{status_line, is_made, SaysLine, Told};
 
+use crate::fault_words::{elf_word, kind_word, section_word, usage_word, why_word};
 use crate::status::{FileId, Status};
-use crate::words::WordFault;
 use bench_build::{BuildFault, ImageFault};
-use dev_face::Kind;
 use elf_image::ElfFault;
-use exp_file::{ExpFault, ExpWhy, Section};
+use exp_file::ExpFault;
 use std::alloc::Global;
 use tb_base::{Bytes, NoMemory};
 use tb_io::Sink;
@@ -200,69 +200,4 @@ fn add_file(line: &mut Bytes, file: FileId) -> Result<(), NoMemory>
         FileId::Disk(i) => add(line, b"disk ", u64::from(i))?,
     }
     Ok(())
-}
-
-fn usage_word(fault: WordFault) -> &'static str
-    ensures { result.now ≡ usage_word fault }
-{
-    match fault {
-        WordFault::NotWords => "not-words",
-        WordFault::EmptyName => "empty-name",
-        WordFault::BadNumber => "bad-number",
-    }
-}
-
-fn kind_word(kind: Kind) -> &'static str
-    ensures { result.now ≡ kind_word kind }
-{
-    match kind {
-        Kind::Clint => "clint",
-        Kind::Uart => "uart",
-        Kind::Blk => "blk",
-        Kind::Net => "net",
-    }
-}
-
-fn elf_word(fault: ElfFault) -> &'static str
-    ensures { result.now ≡ elf_word fault }
-{
-    match fault {
-        ElfFault::NotElf => ": not-elf",
-        ElfFault::Truncated => ": truncated",
-        ElfFault::WrongKind => ": wrong-kind",
-        ElfFault::BadSegment(_) => ": bad-segment",
-        ElfFault::OutsideRam(_) => ": outside-ram",
-        ElfFault::BadEntry => ": bad-entry",
-    }
-}
-
-fn why_word(why: ExpWhy) -> &'static str
-    ensures { result.now ≡ why_word why }
-{
-    match why {
-        ExpWhy::NotToml => "not-toml",
-        ExpWhy::Missing => "missing",
-        ExpWhy::Unknown => "unknown",
-        ExpWhy::WrongKind => "wrong-kind",
-        ExpWhy::Range => "range",
-        ExpWhy::Twice => "twice",
-        ExpWhy::NoSuchGuest => "no-such-guest",
-        ExpWhy::NicTaken => "nic-taken",
-        ExpWhy::NicRange => "nic-range",
-        ExpWhy::NoGuest => "no-guest",
-        ExpWhy::NoSlot => "no-slot",
-        ExpWhy::NotBuilt => "not-built",
-    }
-}
-
-fn section_word(section: Section) -> &'static str
-    ensures { result.now ≡ section_word section }
-{
-    match section {
-        Section::Top => " top ",
-        Section::Slot => " slot ",
-        Section::Guest => " guest ",
-        Section::Disk => " disk ",
-        Section::Link => " link ",
-    }
 }

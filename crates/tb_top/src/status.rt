@@ -1,8 +1,13 @@
 //! How a command ends.
+ghost use Rattle.std.specs.Prelude.{◌≡◌};
+ghost use Rattle.tb_top.specs.Statuses.{read_status, over_status, build_status, run_status};
 
+use crate::run::RunErr;
 use crate::words::WordFault;
 use bench_build::BuildFault;
 use exp_file::ExpFault;
+use host_plan::Overload;
+use tb_io::ReadErr;
 
 /// A file that a command reads.
 #[derive(Clone, Copy, Debug, PartialEq, Eq)]
@@ -35,4 +40,47 @@ pub enum Status {
     WriteFault,
     /// Memory ran out.
     Memory,
+}
+
+/// The status of a file that gave no bytes.
+pub(crate) fn read_status(file: FileId, fault: ReadErr) -> Status
+    ensures { result ≡ read_status file fault }
+{
+    match fault {
+        ReadErr::Failed => Status::ReadFault { file },
+        ReadErr::TooLong => Status::TooLong { file },
+        ReadErr::NoMemory => Status::Memory,
+    }
+}
+
+/// The status of a placement that does not fit.
+pub(crate) fn over_status(over: Overload) -> Status
+    ensures { result ≡ over_status over }
+{
+    Status::Overload {
+        slot: over.slot,
+        need: over.need,
+        have: over.have,
+    }
+}
+
+/// The status of a bench that was not built.
+pub(crate) fn build_status(fault: BuildFault) -> Status
+    ensures { result ≡ build_status fault }
+{
+    match fault {
+        BuildFault::NoMemory => Status::Memory,
+        fault => Status::Build(fault),
+    }
+}
+
+/// The status of a bench that was run.
+pub(crate) fn run_status(ran: Result<(), RunErr>) -> Status
+    ensures { result ≡ run_status ran }
+{
+    match ran {
+        Ok(()) => Status::Done,
+        Err(RunErr::NoMemory) => Status::Memory,
+        Err(RunErr::WriteFailed) => Status::WriteFault,
+    }
 }

@@ -1,14 +1,23 @@
--- The bytes that were read are those that the builder took.
-use Rattle.std.proofs.Common.{ℕ, List, sym, subst}
-use Rattle.tb_top.specs.Reads.{IsRead, image_limit}
+-- The image that was read is that of the guest.
+use Rattle.std.proofs.Common.{rules}
+use Rattle.tb_top.specs.World.{files_seen}
+use Rattle.tb_top.proofs.Images.{read_is, refused_image, taken_image}
 use Rattle.tb_top.proofs.load.load_image.Goals as goal
 
-pub returns-clause-loads : goal.returns-clause-loads
-returns-clause-loads g c = λ e slots images b at.
-    let held = g.F.Files.held c.args.files.now in (
-      c.as_slice.result.now,
-      subst (λ (v : List ℕ). IsRead (held c.args.guest.now.image) image_limit v) (sym c.as_slice.ensures)
-          (subst (λ (n : List ℕ). IsRead (held n) image_limit c.in-Ok.bytes) c.as_str.ensures.text c.in-Ok.ensures.answer),
-      c.in-Ok-add_image.ensures.answer e slots images c.args.guest.now b at,
-      c.in-Ok-add_image.ensures.building e slots images b,
-    )
+pub returns-clause-missed : goal.returns-clause-missed
+returns-clause-missed g c = λ slots t.
+    let spec = c.index-guests-guest.result in
+    rw c.build_status.ensures
+    (refused_image (files_seen g.F.Files c.args.files.now) (files_seen g.F.Files c.read.new.self) c.args.e.now slots c.args.builder.now c.args.guest spec
+    c.as_slice-guests.result.now c.as_slice-guests.ensures c.requires.guest c.index-guests-guest.is c.requires.next t c.as_slice.result.now
+    (read_is (g.F.Files.held c.args.files.now) c.as_str.result.now spec.image c.in-Ok.bytes.items c.as_slice.result.now c.as_str.ensures.text c.as_slice.ensures.value c.in-Ok.ensures.answer)
+    c.in-Err-add_image.fault (c.in-Err-add_image.ensures.answer c.args.e.now slots t.images spec t.building))
+
+pub returns-in-Ok-add_image-clause-taken : goal.returns-in-Ok-add_image-clause-taken
+returns-in-Ok-add_image-clause-taken g c = λ slots t.
+    let spec = c.index-guests-guest.result in
+    taken_image (files_seen g.F.Files c.args.files.now) (files_seen g.F.Files c.read.new.self) c.args.e.now slots c.args.builder.now c.args.guest spec
+    c.as_slice-guests.result.now c.as_slice-guests.ensures c.requires.guest c.index-guests-guest.is c.requires.next t c.as_slice.result.now
+    (read_is (g.F.Files.held c.args.files.now) c.as_str.result.now spec.image c.in-Ok.bytes.items c.as_slice.result.now c.as_str.ensures.text c.as_slice.ensures.value c.in-Ok.ensures.answer)
+    c.add_image.new.self (search rules) (c.in-Ok-add_image.ensures.answer c.args.e.now slots t.images spec t.building)
+    (c.in-Ok-add_image.ensures.building c.args.e.now slots t.images t.building)

@@ -1,0 +1,38 @@
+-- The status of each fault.
+use Rattle.std.specs.Prelude.{Result, Ok, Err}
+use Rattle.tb_io.specs.declared.files.ReadErr.{ReadErr}
+use Rattle.tb_io.specs.declared.files.ReadErr.TheVariants as read
+use Rattle.host_plan.specs.declared.overload.Overload.{Overload as Over}
+use Rattle.bench_build.specs.declared.build_fault.BuildFault.{BuildFault}
+use Rattle.bench_build.specs.declared.build_fault.BuildFault.TheVariants as build
+use Rattle.tb_top.specs.declared.run.RunErr.{RunErr}
+use Rattle.tb_top.specs.declared.run.RunErr.TheVariants as run
+use Rattle.tb_top.specs.declared.status.FileId.{FileId}
+use Rattle.tb_top.specs.declared.status.Status.{Status}
+use Rattle.tb_top.specs.declared.status.Status.TheVariants.{Done, Overload, Build, TooLong, ReadFault, WriteFault, Memory}
+
+-- of a file that gave no bytes
+abbrev pub read_status : FileId → ReadErr → Status
+read_status f read.Failed = ReadFault f
+read_status f read.TooLong = TooLong f
+read_status f read.NoMemory = Memory
+
+-- of a placement that does not fit
+abbrev pub over_status : Over → Status
+over_status o = Overload o.slot o.need o.have
+
+-- of a bench that was not built
+abbrev pub build_status : BuildFault → Status
+build_status build.NoMemory = Memory
+build_status f = Build f
+
+-- of a bench that was run
+abbrev pub run_status : Result (Unit {0}) RunErr → Status
+run_status (Ok _) = Done
+run_status (Err run.NoMemory) = Memory
+run_status (Err run.WriteFailed) = WriteFault
+
+-- memory ran out, or this holds of the status
+abbrev pub OrMemory : (Status → Type 0) → Status → Type 0
+OrMemory P Memory = Unit {0}
+OrMemory P s = P s

@@ -1,0 +1,52 @@
+-- What is seen of files and of sinks, and all that the clauses of the top call speak of.
+use Rattle.std.specs.Prelude.{◌≡◌, ℕ, List, map, length, Option, String, string_bytes, Vec}
+use Rattle.tb_io.specs.declared.files.Files.{Ghosts as FilesWords}
+use Rattle.tb_io.specs.declared.sink.Sink.{Ghosts as SinkWords}
+
+-- what each name holds, where that is told, the count of faults, and the name whose read failed last
+pub record FilesSeen : Type 0 where
+  pub held : List ℕ → Option (List ℕ)
+  pub faults : ℕ
+  pub fault_name : List ℕ
+
+-- the bytes taken, where they are told, and the count of faults
+pub record SinkSeen : Type 0 where
+  pub taken : Option (List ℕ)
+  pub faults : ℕ
+
+abbrev pub files_seen : {F : Type 0} → FilesWords F → F → FilesSeen
+files_seen G files = record { held = G.held files; faults = G.faults files; fault_name = G.fault_name files }
+
+abbrev pub sink_seen : {O : Type 0} → SinkWords O → O → SinkSeen
+sink_seen G sink = record { taken = G.taken sink; faults = G.faults sink }
+
+-- the words, the files before and after the call, out before and after it, and how many Clints and Uarts there are
+pub record World : Type 0 where
+  pub words : List (List ℕ)
+  pub files : FilesSeen
+  pub files_after : FilesSeen
+  pub out : SinkSeen
+  pub out_after : SinkSeen
+  pub stock : ℕ × ℕ
+
+abbrev pub world : {F O : Type 0} → List (List ℕ) → FilesWords F → F → F → SinkWords O → O → O → ℕ × ℕ → World
+world words G files files_after H out out_after stock = record {
+  words = words;
+  files = files_seen G files;
+  files_after = files_seen G files_after;
+  out = sink_seen H out;
+  out_after = sink_seen H out_after;
+  stock = stock;
+}
+
+-- how many devices there are in two lists
+abbrev pub sizes : {A Y B Z : Type 0} → Vec A Y → Vec B Z → ℕ × ℕ
+sizes clints uarts = (length clints.items, length uarts.items)
+
+-- the bytes of words
+abbrev pub texts : {Z : Type 0} → List (String Z) → List (List ℕ)
+texts words = map string_bytes words
+
+-- out has taken nothing
+abbrev pub Quiet : World → Type 0
+Quiet w = w.out_after.taken ≡ w.out.taken
