@@ -17,8 +17,6 @@ mod elf;
 #[cfg(test)]
 mod hart;
 #[cfg(test)]
-mod machine;
-#[cfg(test)]
 mod pages;
 #[cfg(test)]
 mod queue;
@@ -28,5 +26,3 @@ mod ram;
 mod registers;
 #[cfg(test)]
 mod uart;
-#[cfg(test)]
-mod walks;
