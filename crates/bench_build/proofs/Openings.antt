@@ -9,7 +9,7 @@ use Rattle.exp_file.specs.declared.slot_spec.SlotSpec.{SlotSpec}
 use Rattle.exp_file.specs.declared.link_spec.LinkSpec.{LinkSpec}
 use Rattle.exp_file.specs.WellFormed.{IsGuest, IsSlot}
 use Rattle.guest_machine.specs.Tick.{MachineState}
-use Rattle.guest_machine.specs.Opening.{opening}
+use Rattle.guest_machine.specs.Opening.{opening, opening_devices}
 use Rattle.bench_build.specs.declared.shape.Shape.{Shape}
 use Rattle.bench_build.specs.declared.loaded.Loaded.{Loaded}
 use Rattle.bench_build.specs.Answers.{LoadedAnswers, ImageAnswers}
@@ -39,11 +39,11 @@ loaded_push (h ∷ gs) (c ∷ images) (m ∷ ls) b l g are at is = (are.0, loade
 
 -- the machines of one guest more
 pub openings_push : (ss : List Shape) (ls : List Loaded) (s : Shape) (l : Loaded) → slice_get ss (length ls) ≡ Some s →
-    openings ss (ls ++ l ∷ []) ≡ openings ss ls ++ opening s.rate l.entry l.ram ∷ []
+    openings ss (ls ++ l ∷ []) ≡ openings ss ls ++ opening s.rate l.entry l.ram opening_devices ∷ []
 openings_push [] [] s l at = none_is_some at
-openings_push (t ∷ ss) [] s l at = ap (λ (k : Shape). opening k.rate l.entry l.ram ∷ []) (some_is at)
+openings_push (t ∷ ss) [] s l at = ap (λ (k : Shape). opening k.rate l.entry l.ram opening_devices ∷ []) (some_is at)
 openings_push [] (m ∷ ls) s l at = none_is_some at
-openings_push (t ∷ ss) (m ∷ ls) s l at = ap (λ ms. opening t.rate m.entry m.ram ∷ ms) (openings_push ss ls s l at)
+openings_push (t ∷ ss) (m ∷ ls) s l at = ap (λ ms. opening t.rate m.entry m.ram opening_devices ∷ ms) (openings_push ss ls s l at)
 
 -- the machines of images that stand in RAM are the opening machines of the guests
 pub openings_are : (gs : List GuestSpec) (images : List (List ℕ)) (ls : List Loaded) → AreLoaded gs images ls → openings (map shape_of gs) ls ≡ machines_of gs images

@@ -8,7 +8,7 @@ use Rattle.exp_file.specs.declared.link_spec.LinkSpec.{LinkSpec}
 use Rattle.lookahead_core.specs.Synchronous.{Setup}
 use Rattle.lookahead_core.specs.declared.wire.Wire.{Wire}
 use Rattle.guest_machine.specs.Tick.{MachineState, machine_motion}
-use Rattle.guest_machine.specs.Opening.{opening}
+use Rattle.guest_machine.specs.Opening.{opening, opening_devices}
 use Rattle.slot_sched.specs.Legal.{Rules}
 use Rattle.slot_sched.specs.Schedule.{Plan, rules}
 use Rattle.bench_build.specs.Images.{image}
@@ -19,8 +19,8 @@ use Rattle.bench_build.specs.declared.shape.Shape.{Shape}
 -- the opening machine of a guest with this rate and this image. No bench is built with an image that is refused, so
 -- what stands for one is never asked
 abbrev pub opens : ℕ → Result Loaded ImageFault → MachineState
-opens rate (Ok l) = opening rate l.entry l.ram
-opens rate (Err fault) = opening rate 0 []
+opens rate (Ok l) = opening rate l.entry l.ram opening_devices
+opens rate (Err fault) = opening rate 0 [] opening_devices
 
 -- the opening machines of guests, each with its image
 abbrev pub machines_of : List GuestSpec → List (List ℕ) → List MachineState
@@ -38,7 +38,7 @@ wires_of l =
 abbrev pub setup : Experiment → List (List ℕ) → Setup MachineState
 setup e images = record {
   count = length e.guests.items;
-  opening = λ g. slice_index_or (machines_of e.guests.items images) g (opening 1 0 []);
+  opening = λ g. slice_index_or (machines_of e.guests.items images) g (opening 1 0 [] opening_devices);
   wires = flat_map wires_of e.links.items;
 }
 

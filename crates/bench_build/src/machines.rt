@@ -27,7 +27,7 @@ fn machine_for<D: Device>(
 ) -> Result<Machine<D>, NoMemory>
     requires shape { IsShape shape }
     requires devices { map D.state devices.items ≡ opening_devices }
-    ensures state { IfOk result (λ m. machine_state m ≡ opening shape.rate loaded.entry loaded.ram) }
+    ensures state { IfOk result (λ m. machine_state m ≡ opening shape.rate loaded.entry loaded.ram opening_devices) }
     ensures idle { IfOk result (λ m. machine_clock m ≡ Idle 0) }
 {
     let plan = GuestPlan {

@@ -2,7 +2,7 @@
 use Rattle.std.proofs.Common.{◌≡◌, ℕ, ◌+◌, ◌<◌, ◌≤◌, Bool, true, false, cond, Some, None, List, [], refl, sym, ◌∙◌, ap, arith}
 use Rattle.std.specs.Prelude.{IfSome, nat_le}
 use Rattle.std.proofs.lemmas.Bool.Decides.{nat_tests}
-use Rattle.dev_face.specs.States.{DevState, Blank, ClintAt, UartAt, BlkAt, NetAt, IsSetUp, IsComing, coming_of, at_coming}
+use Rattle.dev_face.specs.States.{DevState, Blank, ClintAt, UartAt, BlkAt, NetAt, IsSetUp, IsComing, coming_of, at_coming, kind_of}
 use Rattle.dev_face.specs.BlkCalls.{BlkBegun, BlkEnded}
 use Rattle.dev_face.specs.NetCalls.{NetBegun, NetEnded}
 use Rattle.dev_face.specs.Calls.{dev_begin, dev_end, dev_lines, dev_next, dev_end_idle}
@@ -22,6 +22,13 @@ at_own (ClintAt s) = refl
 at_own (UartAt s) = refl
 at_own (BlkAt s) = refl
 at_own (NetAt s) = refl
+
+pub at_kind : (t : ℕ) (d : DevState) → kind_of (at_coming t d) ≡ kind_of d
+at_kind t (Blank k) = refl
+at_kind t (ClintAt s) = refl
+at_kind t (UartAt s) = refl
+at_kind t (BlkAt s) = refl
+at_kind t (NetAt s) = refl
 
 pub skipped_set_up : (t : ℕ) (d : DevState) → IsSetUp d → IsSetUp (at_coming t d)
 skipped_set_up t (Blank k) h = h

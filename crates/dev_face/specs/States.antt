@@ -98,17 +98,16 @@ pub record IsComing (now n : ℕ) (s : DevState) : Type 0 where
   pub next : coming_of s ≡ now
   pub flies : FliesIn n s
 
--- whether frames may arrive at the device
-abbrev pub takes_frames : DevState → Bool
-takes_frames (Blank k) = false
-takes_frames (ClintAt s) = false
-takes_frames (UartAt s) = false
-takes_frames (BlkAt s) = false
-takes_frames (NetAt s) = true
+-- whether frames may arrive at a device of a kind
+abbrev pub takes_frames : Kind → Bool
+takes_frames kind.Clint = false
+takes_frames kind.Uart = false
+takes_frames kind.Blk = false
+takes_frames kind.Net = true
 
 -- no frames arrive where none may
 abbrev pub MayArrive : DevState → List (List ℕ) → Type 0
-MayArrive s frames = takes_frames s ≡ false → frames ≡ []
+MayArrive s frames = takes_frames (kind_of s) ≡ false → frames ≡ []
 
 -- a list to which more was put at its end, if anything
 abbrev pub StaysInFront : {A : Type 0} → List A → List A → Type 0

@@ -1,15 +1,16 @@
 -- Ticks of a list of devices that may be passed in one go.
-use Rattle.std.proofs.Common.{◌≡◌, ℕ, ◌+◌, ◌<◌, ◌≤◌, true, false, ◌&&◌, map, take, length, get_or, All, Option, Some, None, List, [], ◌∷◌, ◌++◌, refl, sym, ◌∙◌, ap, subst, arith}
-use Rattle.std.specs.Prelude.{IfSome}
+use Rattle.std.proofs.Common.{◌≡◌, ℕ, zero, suc, ◌+◌, ◌-◌, ◌<◌, ◌≤◌, Bool, true, false, cond, ◌&&◌, map, take, drop, replicate, length, get_or, All, Option, Some, None, List, [], ◌∷◌, ◌++◌, refl, sym, ◌∙◌, ap, subst, arith}
+use Rattle.std.specs.Prelude.{IfSome, nat_lt}
 use Rattle.std.specs.List.{list_all}
 use Rattle.std.proofs.lemmas.Bool.{and_parts}
-use Rattle.std.proofs.lemmas.List.{length-map, take_more}
+use Rattle.std.proofs.lemmas.List.{length-map, take_more, get_or-drop}
 use Rattle.std.proofs.lemmas.List.Folds.{list_all_more, list_all_at}
 use Rattle.std.proofs.lemmas.List.Elements.{All-head, All-tail, All-cons, All-nil}
-use Rattle.dev_face.specs.States.{DevState, IsSetUp, IsComing, at_coming}
-use Rattle.dev_face.specs.Calls.{Begun, Ended, MaySkip, dev_lines, dev_next, dev_end_idle}
-use Rattle.dev_face.proofs.Skipping.{at_again, at_own, skipped_set_up, skipped_coming, skipped_begin, skipped_end, skipped_lines}
-use Rattle.dev_list.specs.Walks.{walk, put_first, begin_one, begin_all, end_one, end_all, join_lines, all_lines, least_of, least_due}
+use Rattle.dev_face.specs.States.{DevState, IsSetUp, IsComing, at_coming, kind_of}
+use Rattle.dev_face.specs.Calls.{Begun, Ended, MaySkip, dev_begin, dev_lines, dev_next, dev_end_idle}
+use Rattle.dev_face.proofs.Skipping.{at_again, at_kind, at_own, skipped_set_up, skipped_coming, skipped_begin, skipped_end, skipped_lines}
+use Rattle.lookahead_core.specs.Lists.{list_at}
+use Rattle.dev_list.specs.Walks.{walk, put_first, begin_one, arriving, frames_of, end_one, join_lines, all_lines, least_of, least_due}
 use Rattle.dev_list.proofs.Listed.{state_there}
 
 -- the least due tick of one device more
@@ -70,6 +71,10 @@ pub again_all : (t u : ℕ) (ss : List DevState) → map (at_coming t) (map (at_
 again_all t u [] = refl
 again_all t u (s ∷ ss) = ap (λ e. e ∷ map (at_coming t) (map (at_coming u) ss)) (at_again t u s) ∙ ap (λ es. at_coming t s ∷ es) (again_all t u ss)
 
+pub kinds_all : (t : ℕ) (ss : List DevState) → map kind_of (map (at_coming t) ss) ≡ map kind_of ss
+kinds_all t [] = refl
+kinds_all t (s ∷ ss) = ap (λ k. k ∷ map kind_of (map (at_coming t) ss)) (at_kind t s) ∙ ap (λ ks. kind_of s ∷ ks) (kinds_all t ss)
+
 pub own_all : (n size : ℕ) (ss : List DevState) → All (IsComing n size) ss → map (at_coming n) ss ≡ ss
 own_all n size [] all = refl
 own_all n size (s ∷ ss) all =
@@ -97,25 +102,52 @@ may_skip_all n t size limit (s ∷ ss) all le due idle =
     All-cons (MaySkip t) s ss (record { set_up = c.set_up; later = omega (arith, c.next, le); idle = i.0; due = d.0 })
     (may_skip_all n t size limit ss (All-tail (IsComing n size) s ss all) le d.1 i.1)
 
--- a tick in which nothing is due begins, and only the next tick moves
-pub begun_all : (n t size limit : ℕ) (ram : List ℕ) (ss : List DevState) → All (IsComing n size) ss → n ≤ t → t < least_due limit ss →
-    begin_all (map (at_coming t) ss) t ram ≡ record { devices = map (at_coming (t + 1)) ss; ram = ram; frames = []; recs = [] }
+-- no frames at any device
+abbrev pub silent : List DevState → List (List (List ℕ))
+silent ss = map (λ _. []) ss
+
+-- a tick begins in which nothing is due and nothing arrives, and only the next tick moves
+pub begun_all : (n t size limit : ℕ) (ram : List ℕ) (frames : ℕ → List (List ℕ)) → ((i : ℕ) → frames i ≡ []) → (i : ℕ) (ss : List DevState) → All (IsComing n size) ss → n ≤ t → t < least_due limit ss →
+    walk (begin_one t frames) i (map (at_coming t) ss) ram ≡ record { devices = map (at_coming (t + 1)) ss; ram = ram; frames = silent ss; recs = [] }
 unfolding walk least_due
-begun_all n t size limit ram [] all le due = refl
-begun_all n t size limit ram (s ∷ ss) all le due =
+begun_all n t size limit ram frames none i [] all le due = refl
+begun_all n t size limit ram frames none i (s ∷ ss) all le due =
     let d : IfSome (dev_next s) (λ due. t < due) × (t < least_due limit ss) = below t (least_due limit ss) (dev_next s) due in
-    ap (λ (b : Begun). put_first (record { device = b.device; ram = b.ram; frames = []; recs = b.recs }) (walk (begin_one t) (map (at_coming t) ss) b.ram))
-    (skipped_begin n t size ram s (All-head (IsComing n size) s ss all) le d.0)
-    ∙ ap (put_first (record { device = at_coming (t + 1) s; ram = ram; frames = []; recs = [] })) (begun_all n t size limit ram ss (All-tail (IsComing n size) s ss all) le d.1)
+    ap (λ (b : Begun). put_first (record { device = b.device; ram = b.ram; frames = []; recs = b.recs }) (walk (begin_one t frames) (i + 1) (map (at_coming t) ss) b.ram))
+    (ap (dev_begin (at_coming t s) t ram) (none i) ∙ skipped_begin n t size ram s (All-head (IsComing n size) s ss all) le d.0)
+    ∙ ap (put_first (record { device = at_coming (t + 1) s; ram = ram; frames = []; recs = [] })) (begun_all n t size limit ram frames none (i + 1) ss (All-tail (IsComing n size) s ss all) le d.1)
 
 -- a tick ends in which nothing is served, and changes nothing
-pub ended_all : (t u : ℕ) (ram : List ℕ) (ss : List DevState) → list_all dev_end_idle ss ≡ true → end_all (map (at_coming u) ss) t ram ≡ record { devices = map (at_coming u) ss; ram = ram; frames = []; recs = [] }
+pub ended_all : (t u : ℕ) (ram : List ℕ) (i : ℕ) (ss : List DevState) → list_all dev_end_idle ss ≡ true →
+    walk (end_one t) i (map (at_coming u) ss) ram ≡ record { devices = map (at_coming u) ss; ram = ram; frames = silent ss; recs = [] }
 unfolding walk
-ended_all t u ram [] idle = refl
-ended_all t u ram (s ∷ ss) idle =
-    let i : (dev_end_idle s ≡ true) × (list_all dev_end_idle ss ≡ true) = and_parts (dev_end_idle s) (list_all dev_end_idle ss) idle in
-    ap (λ (e : Ended). put_first e (walk (end_one t) (map (at_coming u) ss) e.ram)) (skipped_end t u ram s i.0)
-    ∙ ap (put_first (record { device = at_coming u s; ram = ram; frames = []; recs = [] })) (ended_all t u ram ss i.1)
+ended_all t u ram i [] idle = refl
+ended_all t u ram i (s ∷ ss) idle =
+    let e : (dev_end_idle s ≡ true) × (list_all dev_end_idle ss ≡ true) = and_parts (dev_end_idle s) (list_all dev_end_idle ss) idle in
+    ap (λ (x : Ended). put_first x (walk (end_one t) (i + 1) (map (at_coming u) ss) x.ram)) (skipped_end t u ram s e.0)
+    ∙ ap (put_first (record { device = at_coming u s; ram = ram; frames = []; recs = [] })) (ended_all t u ram (i + 1) ss e.1)
+
+-- nothing arrives at any device where nothing arrives at the nics
+none_listed : (n nic : ℕ) → list_at {A = List ℕ} (replicate n []) nic ≡ []
+none_listed zero nic = refl
+none_listed (suc n) zero = refl
+none_listed (suc n) (suc nic) = none_listed n nic
+
+pub none_arrives : (n first i : ℕ) → arriving first (replicate n []) i ≡ []
+none_arrives n first i = by (nat_lt i first)
+  where
+    by : (b : Bool) → frames_of (replicate n []) (cond b None (Some (i - first))) ≡ []
+    by true = refl
+    by false = none_listed n (i - first)
+
+-- and nothing leaves a nic where nothing leaves any device
+none_there : (ss : List DevState) (nic : ℕ) → list_at (silent ss) nic ≡ []
+none_there [] nic = refl
+none_there (s ∷ ss) zero = refl
+none_there (s ∷ ss) (suc nic) = none_there ss nic
+
+pub none_leaves : (ss : List DevState) (first nic : ℕ) → list_at (drop first (silent ss)) nic ≡ []
+none_leaves ss first nic = get_or-drop first (silent ss) nic [] ∙ none_there ss (first + nic)
 
 -- the lines stay until something is due
 pub lines_all : (n t u size limit : ℕ) (ss : List DevState) → All (IsComing n size) ss → n ≤ t → t < least_due limit ss → all_lines (map (at_coming u) ss) t ≡ all_lines ss n
@@ -127,10 +159,10 @@ lines_all n t u size limit (s ∷ ss) all le due =
     ∙ ap (join_lines (dev_lines s n)) (lines_all n t u size limit ss (All-tail (IsComing n size) s ss all) le d.1)
 
 -- as a walk
-abbrev pub skip_one : ℕ → DevState → List ℕ → Ended
-skip_one t s ram = record { device = at_coming t s; ram = ram; frames = []; recs = [] }
+abbrev pub skip_one : ℕ → ℕ → DevState → List ℕ → Ended
+skip_one t i s ram = record { device = at_coming t s; ram = ram; frames = []; recs = [] }
 
-pub skip_walk : (t : ℕ) (ram : List ℕ) (ss : List DevState) → (walk (skip_one t) ss ram).devices ≡ map (at_coming t) ss
+pub skip_walk : (t i : ℕ) (ram : List ℕ) (ss : List DevState) → (walk (skip_one t) i ss ram).devices ≡ map (at_coming t) ss
 unfolding walk
-skip_walk t ram [] = refl
-skip_walk t ram (s ∷ ss) = ap (λ es. at_coming t s ∷ es) (skip_walk t ram ss)
+skip_walk t i ram [] = refl
+skip_walk t i ram (s ∷ ss) = ap (λ es. at_coming t s ∷ es) (skip_walk t (i + 1) ram ss)

@@ -1,7 +1,7 @@
 //! Ticks in which no device does anything, passed in one go.
 ghost use Rattle.std.specs.Prelude.{◌≡◌, ◌+◌, ◌≤◌, ◌^◌, All, map};
 ghost use Rattle.std.specs.List.{list_all};
-ghost use Rattle.dev_face.specs.States.{IsSetUp, at_coming};
+ghost use Rattle.dev_face.specs.States.{IsSetUp, at_coming, kind_of};
 ghost use Rattle.dev_face.specs.Calls.{MaySkip, dev_end_idle};
 ghost use Rattle.dev_list.specs.Walks.{least_of, least_due};
 
@@ -48,6 +48,7 @@ pub fn skip_all<D: Device>(devices: &mut [D], tick: u64)
     requires early { tick ≤ 2 ^ 40 + 1 }
     ensures devices { map D.state devices.new ≡ map (at_coming tick) (map D.state devices.old) }
     ensures set_up { All IsSetUp (map D.state devices.new) }
+    ensures kinds { map kind_of (map D.state devices.new) ≡ map kind_of (map D.state devices.old) }
 {
     for i in 0..devices.len() {
         devices[i].skip_to(tick);

@@ -9,6 +9,8 @@ mod boxed;
 #[cfg(test)]
 mod clint;
 #[cfg(test)]
+mod counters;
+#[cfg(test)]
 mod counting;
 #[cfg(test)]
 mod disk;
@@ -16,6 +18,8 @@ mod disk;
 mod hart;
 #[cfg(test)]
 mod machine;
+#[cfg(test)]
+mod memory_map;
 #[cfg(test)]
 mod pages;
 #[cfg(test)]
