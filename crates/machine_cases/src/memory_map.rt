@@ -143,7 +143,10 @@ fn virtio_slots_end_where_they_say(rt: HostRuntime) -> Result<(), Fail> {
     ] {
         assert!(rt; is_so(alloc, base, Width::Byte, None)?, "at {base:x}");
         assert!(rt; is_so(alloc, base, Width::Word, Some(0x76))?, "at {base:x}");
-        assert!(rt; is_so(alloc, base + 0xffc, Width::Word, Some(0))?, "at {base:x}");
+        assert!(rt;
+            is_so(alloc, base + 0xffc, Width::Word, Some(0))?,
+            "at {base:x}"
+        );
     }
     Ok(())
 }
