@@ -15,9 +15,9 @@ use Rattle.exp_file.specs.Tables.{each, slot_step, guest_step}
 use Rattle.exp_file.specs.Disks.{disk_step}
 use Rattle.exp_file.specs.Links.{link_step}
 
--- whether all that an experiment asks for can be run: no disk, no link, and no guest with a nic
+-- whether all that an experiment asks for can be run: no link, and no guest with a nic
 abbrev pub is_built : Experiment → Bool
-is_built e = length e.disks.items == 0 && length e.links.items == 0 && list_all (λ g. g.nics == 0) e.guests.items
+is_built e = length e.links.items == 0 && list_all (λ g. g.nics == 0) e.guests.items
 
 unfoldable pub built : Experiment → Result Experiment ExpFault
 built e = if is_built e then Ok e else Err (record { why = NotBuilt; section = Top; index = 0; key = [] })

@@ -44,7 +44,7 @@ fn are_built_guests(guests: &[GuestSpec]) -> bool
 fn is_built(e: &Experiment) -> bool
     ensures { result ≡ is_built e.now }
 {
-    e.disks.is_empty() && e.links.is_empty() && are_built_guests(e.guests.as_slice())
+    e.links.is_empty() && are_built_guests(e.guests.as_slice())
 }
 
 /// The experiment that the arrays of its tables say.
