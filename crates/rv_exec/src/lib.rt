@@ -2,10 +2,12 @@
 #![tactic(auto)]
 
 mod bus;
+mod csr_change;
+mod effects;
 mod exception;
+mod extension;
 mod hart;
 mod perform;
-mod pieces;
 mod step;
 mod stepped;
 

@@ -1,20 +1,22 @@
 //! Instructions.
 ghost use Rattle.std.specs.Prelude.{◌≡◌, ◌+◌, ◌*◌, ◌-◌, ◌/◌, ◌<◌, ◌≤◌, ◌^◌, ◌%◌, OnErr};
-ghost use Rattle.tb_base.specs.declared.width.Width.TheVariants as width;
 ghost use Rattle.csr_file.specs.Csrs.{bit_of};
-ghost use Rattle.rv_arith.specs.Words.{word_sext8, word_sext16};
 ghost use Rattle.rv_word.specs.Ranges.{IsInRange};
+ghost use Rattle.rv_exec.specs.Choices.{extended_by};
 ghost use Rattle.rv_exec.specs.Ends.{outcome_of};
-ghost use Rattle.rv_exec.specs.Meaning.{meaning, load_done, store_done, as_is, load_cause, store_cause, Raises};
+ghost use Rattle.rv_exec.specs.Meaning.{meaning, load_done, store_done, load_cause, store_cause, Raises};
 
 use crate::bus::Bus;
-use crate::exception::Exception;
+use crate::csr_change::CsrChange;
+use crate::exception::{
+    BREAKPOINT, Exception, LOAD_ACCESS_FAULT, LOAD_MISALIGNED, MACHINE_ECALL, STORE_ACCESS_FAULT,
+    STORE_MISALIGNED,
+};
+use crate::extension::Extension;
 use crate::hart::Hart;
 use csr_file::CsrView;
 use guest_ram::MemFault;
-use rv_arith::{
-    div, divu, mulh, mulhsu, mulhu, rem, remu, sext8, sext16, sll, slt, sltu, sra, srl,
-};
+use rv_arith::{div, divu, mulh, mulhsu, mulhu, rem, remu, sll, slt, sltu, sra, srl};
 use rv_word::Op;
 use tb_base::Width;
 
@@ -23,8 +25,8 @@ fn load_fault(fault: MemFault, addr: u32) -> Exception
 {
     Exception {
         cause: match fault {
-            MemFault::Misaligned => 4,
-            MemFault::Outside => 5,
+            MemFault::Misaligned => LOAD_MISALIGNED,
+            MemFault::Outside => LOAD_ACCESS_FAULT,
         },
         value: addr,
     }
@@ -35,8 +37,8 @@ fn store_fault(fault: MemFault, addr: u32) -> Exception
 {
     Exception {
         cause: match fault {
-            MemFault::Misaligned => 6,
-            MemFault::Outside => 7,
+            MemFault::Misaligned => STORE_MISALIGNED,
+            MemFault::Outside => STORE_ACCESS_FAULT,
         },
         value: addr,
     }
@@ -56,44 +58,17 @@ impl Hart {
         rd: u32,
         addr: u32,
         width: Width,
+        extension: Extension,
     ) -> Result<(), Exception>
         requires rd { rd < 32 }
         requires ready { B.ready bus.old }
-        ensures outcome { outcome_of result self.new ≡ load_done self.old rd as_is addr (B.bus.loaded (B.bus_state bus.old) addr width) }
+        ensures outcome { outcome_of result self.new ≡ load_done self.old rd (extended_by extension) addr (B.bus.loaded (B.bus_state bus.old) addr width) }
         ensures bus { B.bus_state bus.new ≡ B.bus_state bus.old }
         ensures kept { OnErr result (self.new ≡ self.old) }
         ensures ready { B.ready bus.new }
     {
         match bus.load(addr, width) {
-            Ok(value) => self.put_value(rd, value),
-            Err(fault) => Err(load_fault(fault, addr)),
-        }
-    }
-
-    fn load_signed_byte<B: Bus>(&mut self, bus: &mut B, rd: u32, addr: u32) -> Result<(), Exception>
-        requires rd { rd < 32 }
-        requires ready { B.ready bus.old }
-        ensures outcome { outcome_of result self.new ≡ load_done self.old rd word_sext8 addr (B.bus.loaded (B.bus_state bus.old) addr width.Byte) }
-        ensures bus { B.bus_state bus.new ≡ B.bus_state bus.old }
-        ensures kept { OnErr result (self.new ≡ self.old) }
-        ensures ready { B.ready bus.new }
-    {
-        match bus.load(addr, Width::Byte) {
-            Ok(value) => self.put_value(rd, sext8(value)),
-            Err(fault) => Err(load_fault(fault, addr)),
-        }
-    }
-
-    fn load_signed_half<B: Bus>(&mut self, bus: &mut B, rd: u32, addr: u32) -> Result<(), Exception>
-        requires rd { rd < 32 }
-        requires ready { B.ready bus.old }
-        ensures outcome { outcome_of result self.new ≡ load_done self.old rd word_sext16 addr (B.bus.loaded (B.bus_state bus.old) addr width.Half) }
-        ensures bus { B.bus_state bus.new ≡ B.bus_state bus.old }
-        ensures kept { OnErr result (self.new ≡ self.old) }
-        ensures ready { B.ready bus.new }
-    {
-        match bus.load(addr, Width::Half) {
-            Ok(value) => self.put_value(rd, sext16(value)),
+            Ok(value) => self.put_value(rd, extension.value(value)),
             Err(fault) => Err(load_fault(fault, addr)),
         }
     }
@@ -142,11 +117,41 @@ impl Hart {
             Op::Bge { rs1, rs2, imm } => self.branch(!slt(self.reg(rs1), self.reg(rs2)), imm),
             Op::Bltu { rs1, rs2, imm } => self.branch(sltu(self.reg(rs1), self.reg(rs2)), imm),
             Op::Bgeu { rs1, rs2, imm } => self.branch(!sltu(self.reg(rs1), self.reg(rs2)), imm),
-            Op::Lb { rd, rs1, imm } => self.load_signed_byte(bus, rd, self.sum(rs1, imm)),
-            Op::Lh { rd, rs1, imm } => self.load_signed_half(bus, rd, self.sum(rs1, imm)),
-            Op::Lw { rd, rs1, imm } => self.load(bus, rd, self.sum(rs1, imm), Width::Word),
-            Op::Lbu { rd, rs1, imm } => self.load(bus, rd, self.sum(rs1, imm), Width::Byte),
-            Op::Lhu { rd, rs1, imm } => self.load(bus, rd, self.sum(rs1, imm), Width::Half),
+            Op::Lb { rd, rs1, imm } => self.load(
+                bus,
+                rd,
+                self.sum(rs1, imm),
+                Width::Byte,
+                Extension::SignedByte,
+            ),
+            Op::Lh { rd, rs1, imm } => self.load(
+                bus,
+                rd,
+                self.sum(rs1, imm),
+                Width::Half,
+                Extension::SignedHalf,
+            ),
+            Op::Lw { rd, rs1, imm } => self.load(
+                bus,
+                rd,
+                self.sum(rs1, imm),
+                Width::Word,
+                Extension::Zeros,
+            ),
+            Op::Lbu { rd, rs1, imm } => self.load(
+                bus,
+                rd,
+                self.sum(rs1, imm),
+                Width::Byte,
+                Extension::Zeros,
+            ),
+            Op::Lhu { rd, rs1, imm } => self.load(
+                bus,
+                rd,
+                self.sum(rs1, imm),
+                Width::Half,
+                Extension::Zeros,
+            ),
             Op::Sb { rs1, rs2, imm } => self.store(
                 bus,
                 self.sum(rs1, imm),
@@ -211,31 +216,68 @@ impl Hart {
             Op::Rem { rd, rs1, rs2 } => self.put_value(rd, rem(self.reg(rs1), self.reg(rs2))),
             Op::Remu { rd, rs1, rs2 } => self.put_value(rd, remu(self.reg(rs1), self.reg(rs2))),
             Op::Fence | Op::FenceI => self.go_on(),
-            Op::Csrrw { rd, csr, rs1 } => self.csr_swap(view, word, rd, csr, self.reg(rs1)),
-            Op::Csrrs { rd, csr, rs1 } => self.csr_set(
+            Op::Csrrw { rd, csr, rs1 } => self.change_csr(
                 view,
                 word,
                 rd,
                 csr,
+                CsrChange::Write,
                 self.reg(rs1),
-                rs1 != 0,
+                true,
             ),
-            Op::Csrrc { rd, csr, rs1 } => self.csr_clear(
+            Op::Csrrs { rd, csr, rs1 } => self.change_csr(
                 view,
                 word,
                 rd,
                 csr,
+                CsrChange::Set,
                 self.reg(rs1),
                 rs1 != 0,
             ),
-            Op::Csrrwi { rd, csr, zimm } => self.csr_swap(view, word, rd, csr, zimm),
-            Op::Csrrsi { rd, csr, zimm } => self.csr_set(view, word, rd, csr, zimm, zimm != 0),
-            Op::Csrrci { rd, csr, zimm } => self.csr_clear(view, word, rd, csr, zimm, zimm != 0),
+            Op::Csrrc { rd, csr, rs1 } => self.change_csr(
+                view,
+                word,
+                rd,
+                csr,
+                CsrChange::Clear,
+                self.reg(rs1),
+                rs1 != 0,
+            ),
+            Op::Csrrwi { rd, csr, zimm } => self.change_csr(
+                view,
+                word,
+                rd,
+                csr,
+                CsrChange::Write,
+                zimm,
+                true,
+            ),
+            Op::Csrrsi { rd, csr, zimm } => self.change_csr(
+                view,
+                word,
+                rd,
+                csr,
+                CsrChange::Set,
+                zimm,
+                zimm != 0,
+            ),
+            Op::Csrrci { rd, csr, zimm } => self.change_csr(
+                view,
+                word,
+                rd,
+                csr,
+                CsrChange::Clear,
+                zimm,
+                zimm != 0,
+            ),
             Op::Ecall => Err(Exception {
-                cause: 11,
+                cause: MACHINE_ECALL,
                 value: 0,
             }),
-            Op::Ebreak => Err(Exception { cause: 3, value: 0 }),
+            Op::Ebreak => Err(Exception {
+                cause: BREAKPOINT,
+                value: 0,
+            }),
             Op::Mret => self.leave_trap(),
             Op::Wfi => self.wait(),
         }

@@ -5,6 +5,7 @@ ghost use Rattle.rv_exec.specs.Moves.{Moves};
 ghost use Rattle.rv_exec.specs.Step.{is_busy, step_of, awake, trap_hart, trapped, finished, decoded, fetched_step, idled};
 
 use crate::bus::Bus;
+use crate::exception::{ILLEGAL_INSTRUCTION, INSTRUCTION_ACCESS_FAULT};
 use crate::hart::Hart;
 use crate::stepped::Stepped;
 use csr_file::{CsrView, Lines};
@@ -33,7 +34,7 @@ impl Hart {
         ensures ready { B.ready bus.new }
     {
         match decode(word) {
-            None => self.trap(2, word),
+            None => self.trap(ILLEGAL_INSTRUCTION, word),
             Some(op) => {
                 let view = CsrView {
                     lines,
@@ -68,7 +69,7 @@ impl Hart {
             Some(cause) => self.trap(cause, 0),
             None => match bus.fetch(self.pc) {
                 Ok(word) => self.run_word(bus, lines, word),
-                Err(_) => self.trap(1, self.pc),
+                Err(_) => self.trap(INSTRUCTION_ACCESS_FAULT, self.pc),
             },
         }
     }

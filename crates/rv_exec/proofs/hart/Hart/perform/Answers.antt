@@ -41,18 +41,6 @@ returns-in-Bgeu-clause-outcome g c =
     let gone = simp to_z-of_z at c.branch-self-in-Bgeu.ensures.outcome in
     rw (c.in-Bgeu.is, gone, c.sltu-in-Bgeu.ensures, c.reg-in-Bgeu.ensures, c.reg-in-Bgeu-2.ensures) refl
 
-pub returns-in-Csrrs-clause-outcome : goal.returns-in-Csrrs-clause-outcome
-returns-in-Csrrs-clause-outcome g c = rw (c.in-Csrrs.is, c.csr_set.ensures.outcome, c.reg-in-Csrrs.ensures) refl
-
-pub returns-in-Csrrc-clause-outcome : goal.returns-in-Csrrc-clause-outcome
-returns-in-Csrrc-clause-outcome g c = rw (c.in-Csrrc.is, c.csr_clear.ensures.outcome, c.reg-in-Csrrc.ensures) refl
-
-pub returns-in-Csrrsi-clause-outcome : goal.returns-in-Csrrsi-clause-outcome
-returns-in-Csrrsi-clause-outcome g c = rw (c.in-Csrrsi.is, c.csr_set-in-Csrrsi.ensures.outcome) refl
-
-pub returns-in-Csrrci-clause-outcome : goal.returns-in-Csrrci-clause-outcome
-returns-in-Csrrci-clause-outcome g c = rw (c.in-Csrrci.is, c.csr_clear-in-Csrrci.ensures.outcome) refl
-
 pub returns-in-Jalr-clause-outcome : goal.returns-in-Jalr-clause-outcome
 returns-in-Jalr-clause-outcome g c =
     let fits : SFits w32 c.in-Jalr.imm = search rules in

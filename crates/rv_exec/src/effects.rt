@@ -2,9 +2,11 @@
 ghost use Rattle.std.specs.Prelude.{◌≡◌, ◌+◌, ◌<◌, ◌^◌, ◌%◌, OnErr, true};
 ghost use Rattle.csr_file.specs.Traps.{mret_csrs};
 ghost use Rattle.rv_exec.specs.Ends.{outcome_of};
-ghost use Rattle.rv_exec.specs.Meaning.{Done, onward, value_done, jump, branch, csr_done, csrrw_value, csrrs_value, csrrc_value, csr_written};
+ghost use Rattle.rv_exec.specs.Meaning.{Done, onward, value_done, jump, branch, csr_done, csr_written};
+ghost use Rattle.rv_exec.specs.Choices.{changed_by};
 
-use crate::exception::Exception;
+use crate::csr_change::CsrChange;
+use crate::exception::{Exception, ILLEGAL_INSTRUCTION, INSTRUCTION_MISALIGNED};
 use crate::hart::Hart;
 use csr_file::CsrView;
 
@@ -45,7 +47,7 @@ impl Hart {
             Ok(())
         } else {
             Err(Exception {
-                cause: 0,
+                cause: INSTRUCTION_MISALIGNED,
                 value: target,
             })
         }
@@ -63,7 +65,7 @@ impl Hart {
                 Ok(())
             } else {
                 Err(Exception {
-                    cause: 0,
+                    cause: INSTRUCTION_MISALIGNED,
                     value: target,
                 })
             }
@@ -113,85 +115,36 @@ impl Hart {
             Ok(())
         } else {
             Err(Exception {
-                cause: 2,
+                cause: ILLEGAL_INSTRUCTION,
                 value: word,
             })
         }
     }
 
-    /// Does CSRRW.
-    pub(crate) fn csr_swap(
+    /// Changes a CSR and puts its old value into a register, or traps where the CSR is not there or
+    /// cannot be written. An instruction that writes nothing only reads.
+    pub(crate) fn change_csr(
         &mut self,
         view: &CsrView,
         word: u32,
         rd: u32,
         csr: u32,
-        x: u32,
-    ) -> Result<(), Exception>
-        requires { rd < 32 }
-        ensures outcome { outcome_of result self.new ≡ csr_done self.old view.now word rd csr csrrw_value x true }
-        ensures kept { OnErr result (self.new ≡ self.old) }
-    {
-        match self.csrs.read(csr, view) {
-            None => Err(Exception {
-                cause: 2,
-                value: word,
-            }),
-            Some(old) => self.csr_put(word, rd, csr, old, x),
-        }
-    }
-
-    /// Does CSRRS.
-    pub(crate) fn csr_set(
-        &mut self,
-        view: &CsrView,
-        word: u32,
-        rd: u32,
-        csr: u32,
-        x: u32,
+        change: CsrChange,
+        operand: u32,
         writes: bool,
     ) -> Result<(), Exception>
         requires { rd < 32 }
-        ensures outcome { outcome_of result self.new ≡ csr_done self.old view.now word rd csr csrrs_value x writes }
+        ensures outcome { outcome_of result self.new ≡ csr_done self.old view.now word rd csr (changed_by change) operand writes }
         ensures kept { OnErr result (self.new ≡ self.old) }
     {
         match self.csrs.read(csr, view) {
             None => Err(Exception {
-                cause: 2,
+                cause: ILLEGAL_INSTRUCTION,
                 value: word,
             }),
             Some(old) => {
                 if writes {
-                    self.csr_put(word, rd, csr, old, old | x)
-                } else {
-                    self.put_value(rd, old)
-                }
-            }
-        }
-    }
-
-    /// Does CSRRC.
-    pub(crate) fn csr_clear(
-        &mut self,
-        view: &CsrView,
-        word: u32,
-        rd: u32,
-        csr: u32,
-        x: u32,
-        writes: bool,
-    ) -> Result<(), Exception>
-        requires { rd < 32 }
-        ensures outcome { outcome_of result self.new ≡ csr_done self.old view.now word rd csr csrrc_value x writes }
-        ensures kept { OnErr result (self.new ≡ self.old) }
-    {
-        match self.csrs.read(csr, view) {
-            None => Err(Exception {
-                cause: 2,
-                value: word,
-            }),
-            Some(old) => {
-                if writes {
-                    self.csr_put(word, rd, csr, old, old & !x)
+                    self.csr_put(word, rd, csr, old, change.value(old, operand))
                 } else {
                     self.put_value(rd, old)
                 }
