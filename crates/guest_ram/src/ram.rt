@@ -1,7 +1,7 @@
 //! RAM by address.
 ghost use Rattle.std.specs.Prelude.{◌≡◌, ◌+◌, ◌-◌, ◌<◌, ◌≤◌, IfOk, MatchResult, Ok, Err, length, replicate, slice_range};
 ghost use Rattle.tb_base.specs.Widths.{width_bytes};
-ghost use Rattle.guest_ram.specs.Bytes.{ram_base, IsRamSize, IsInRam, holds_range, place_of, ram_load, ram_store, ram_after, value_at, bytes_after};
+ghost use Rattle.guest_ram.specs.Bytes.{ram_base, IsRamSize, IsInRam, holds_range, index_of, ram_load, ram_store, ram_after, value_at, bytes_after};
 
 use crate::fault::MemFault;
 use byte_pages::Pages;
@@ -97,9 +97,9 @@ impl Ram {
         base <= addr && len <= size && addr - base <= size - len
     }
 
-    /// The place of an access in the list of bytes, or why it is refused.
-    fn place(&self, addr: u32, width: Width) -> Result<usize, MemFault>
-        ensures { result ≡ place_of self.now addr width }
+    /// The index of an access in the list of bytes, or why it is refused.
+    fn index_of(&self, addr: u32, width: Width) -> Result<usize, MemFault>
+        ensures { result ≡ index_of self.now addr width }
     {
         // The size is a multiple of every width, so an aligned access that begins inside ends inside.
         let at = addr.wrapping_sub(BASE) as usize;
@@ -117,7 +117,7 @@ impl Ram {
     pub fn load(&self, addr: u32, width: Width) -> Result<u32, MemFault>
         ensures { result ≡ ram_load self.now addr width }
     {
-        match self.place(addr, width) {
+        match self.index_of(addr, width) {
             Ok(at) => Ok(value_at(&self.pages, at, width)),
             Err(fault) => Err(fault),
         }
@@ -130,7 +130,7 @@ impl Ram {
         ensures refused { MatchResult result (λ _. Unit {0}) (λ _. self.new ≡ self.old) }
         ensures size { length self.new ≡ length self.old }
     {
-        match self.place(addr, width) {
+        match self.index_of(addr, width) {
             Ok(at) => {
                 put_value(&mut self.pages, at, width, value);
                 Ok(())
