@@ -1,16 +1,15 @@
 -- Few nodes on few slots.
-use Rattle.std.proofs.Common.{◌≡◌, ◌<◌, ◌≤◌, ℕ, zero, suc, Bool, true, false, cond, ◌==◌, List, [], ◌∷◌, length, arith}
+use Rattle.std.proofs.Common.{◌≡◌, ◌+◌, ◌<◌, ◌≤◌, ℕ, zero, suc, Bool, true, false, cond, ◌==◌, List, [], ◌∷◌, length, arith}
 use Rattle.std.specs.Prelude.{slice_index}
 use Rattle.slot_sched.specs.Schedule.{sum_at}
 
--- nodes of one step a tick need no more units than there are nodes
-pub few_at : (home rate : ℕ → ℕ) (s n : ℕ) → ((g : ℕ) → g < n → rate g ≡ 1) → sum_at home s rate n ≤ n
-few_at home rate s zero few = omega arith
-few_at home rate s (suc n) few = omega (arith, few_at home rate s n (λ g lt. few g (omega (arith, lt))), picked (home n == s) (rate n), few n (omega arith))
-  where
-    picked : (b : Bool) (v : ℕ) → cond b v 0 ≤ v
-    picked true v = omega arith
-    picked false v = omega arith
+picked : (b : Bool) (v : ℕ) → cond b v 0 ≤ v
+picked true v = omega arith
+picked false v = omega arith
+
+-- three nodes on a slot need no more than their rates together
+pub three_at : (home rate : ℕ → ℕ) (s n : ℕ) → n ≡ 3 → sum_at home s rate n ≤ rate 0 + rate 1 + rate 2
+three_at home rate s n e = rw e (omega (arith, picked (home 0 == s) (rate 0), picked (home 1 == s) (rate 1), picked (home 2 == s) (rate 2)))
 
 pub below_two : (P : ℕ → Type 0) → P 0 → P 1 → (g : ℕ) → g < 2 → P g
 below_two P a b zero lt = a

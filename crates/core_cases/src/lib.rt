@@ -3,20 +3,4 @@
 #![tactic(auto)]
 
 #[cfg(test)]
-mod dozer;
-#[cfg(test)]
-mod journal;
-#[cfg(test)]
-mod line;
-#[cfg(test)]
-mod pipe;
-#[cfg(test)]
-mod sinks;
-#[cfg(test)]
-mod sleeper;
-#[cfg(test)]
-mod sleepers;
-#[cfg(test)]
-mod slots;
-#[cfg(test)]
-mod views;
+mod tests;

@@ -48,10 +48,6 @@ three_short f g k a b c x y z e p q = adds_cut f k a c (x ++ y) z e (adds_more f
 pub three_whole : (f g k l : Bool) (a b c d : Option (List ℕ)) (x y z : List ℕ) → Adds f a g b x → Adds g b k c y → Adds k c l d z → Adds f a l d ((x ++ y) ++ z)
 three_whole f g k l a b c d x y z p q s = adds_more f k l a c d (x ++ y) z (adds_more f g k a b c x y p q) s
 
-pub below_same : (t s : ℕ → List ℕ) (n m : ℕ) → n ≤ m → ((g : ℕ) → g < m → t g ≡ s g) → texts_below t n ≡ texts_below s n
-below_same t s zero m h e = refl
-below_same t s (suc n) m h e = ap₂ (λ (x y : List ℕ). x ++ y) (below_same t s n m (omega arith) e) (e n (omega arith))
-
 -- a whole text, put where nothing was put before
 stands_nothing : (failed : Bool) (before now : Option (List ℕ)) → Takes before now [] → Stands failed before now []
 stands_nothing false before now t = t

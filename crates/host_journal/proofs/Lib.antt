@@ -1,5 +1,4 @@
 pub mod CountLemmas
 pub mod GuestLemmas
+pub mod HeldLemmas
 pub mod StandingLemmas
-pub mod SummaryLemmas
-pub mod TraceLemmas

@@ -1,5 +1,5 @@
 -- What stands in a sink after one more put.
-use Rattle.std.proofs.Common.{◌≡◌, ℕ, List, [], ◌∷◌, ◌++◌, Option, Some, None, Bool, true, false, refl, sym, ap, ◌∙◌, subst, append_assoc, length, take, drop, get_or, ◌+◌, ◌<◌}
+use Rattle.std.proofs.Common.{◌≡◌, ℕ, List, [], ◌∷◌, ◌++◌, Option, Some, None, Bool, true, false, sym, ap, ◌∙◌, subst, append_assoc, length, take, drop, get_or, ◌+◌, ◌<◌}
 use Rattle.std.proofs.lemmas.List.{append-nil, take_more, take-append-drop}
 use Rattle.std.proofs.lemmas.Grind.{flat_map-append}
 use Rattle.std.specs.List.{filter, flat_map}
@@ -9,7 +9,7 @@ use Rattle.trace_rec.specs.declared.view.View.{View}
 use Rattle.trace_rec.specs.declared.rec.Rec.{Rec}
 use Rattle.trace_rec.specs.Lines.{rec_line}
 use Rattle.tb_io.specs.Puts.{Takes, TakesPart}
-use Rattle.tb_io.proofs.Parts.{takes_none, takes_more, part_more, part_longer}
+use Rattle.tb_io.proofs.Parts.{takes_none, takes_more, part_more, part_longer, part_whole_longer}
 use Rattle.host_journal.specs.Standing.{Stands, Adds}
 use Rattle.host_journal.specs.Texts.{rec_lines, head_line, entry_lines, entries_text}
 use Rattle.host_journal.specs.Entries.{Entry}
@@ -22,7 +22,7 @@ adds_nothing false a x e = absurd (cc)
 
 -- nothing is put where the line was not made
 pub adds_stopped : (f : Bool) (a : Option (List ℕ)) (x : List ℕ) → f ≡ false → Adds f a true a x
-adds_stopped false a x e = λ before text s. (text, record { rest = x; whole = refl }, s)
+adds_stopped false a x e = λ before text s. part_whole_longer before a text x s
 adds_stopped true a x e = absurd (cc)
 
 pub adds_whole : (f : Bool) (a b : Option (List ℕ)) (x : List ℕ) → f ≡ false → Takes a b x → Adds f a f b x

@@ -37,3 +37,15 @@ guest_words g name = decimal g ++ codes " " ++ name
 -- the last line
 abbrev pub end_word : List ℕ
 end_word = codes "end\n"
+
+-- what stands of each guest, by its number, its name and its records
+abbrev pub guest_text : (ℕ → List ℕ → List Rec → List ℕ) → List (List ℕ) → (ℕ → List Rec) → ℕ → List ℕ
+guest_text shown names recs g = shown g (name_at names g) (recs g)
+
+-- the text of guests that have these records: the first line, what stands of each guest, and the end
+unfoldable pub guests_text : List ℕ → (ℕ → List ℕ → List Rec → List ℕ) → Head → (ℕ → List Rec) → List ℕ
+guests_text title shown h recs = guests_head title h ++ texts_below (guest_text shown h.names.items recs) (length h.names.items) ++ end_word
+
+-- that of a run's entries
+abbrev pub guests_of : List ℕ → (ℕ → List ℕ → List Rec → List ℕ) → Head → List Entry → List ℕ
+guests_of title shown h es = guests_text title shown h (recs_below (ticks_shown h) es)

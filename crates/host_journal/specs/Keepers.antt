@@ -1,5 +1,6 @@
 -- What a keeper of a journal is.
-use Rattle.std.specs.Prelude.{ℕ, List, Option, Bool}
+use Rattle.std.specs.Prelude.{◌≡◌, ℕ, List, Option, Bool, true, false, Result, OnOk, OnErr}
+use Rattle.tb_io.specs.declared.write_err.WriteErr.{WriteErr}
 use Rattle.trace_rec.specs.declared.view.View.{View}
 use Rattle.host_journal.specs.Entries.{Entry}
 use Rattle.host_journal.specs.Standing.{Stands}
@@ -30,3 +31,9 @@ text_of keep es = entries_text (view_of keep) (head_of keep) es
 -- their text, or a prefix of it where a call failed
 abbrev pub StandsFor : JournalKeep → Option (List ℕ) → Option (List ℕ) → List Entry → Type 0
 StandsFor keep before now es = Stands (has_failed keep) before now (text_of keep es)
+
+-- a call of the keeper succeeds only where none failed before; after a failed one each fails, and puts nothing
+pub record StaysFailed (old new : JournalKeep) (taken taken' : Option (List ℕ)) (result : Result (Unit {0}) WriteErr) : Type 0 where
+  pub ok : OnOk result ((has_failed old ≡ false) × (has_failed new ≡ false))
+  pub err : OnErr result (has_failed new ≡ true)
+  pub stopped : has_failed old ≡ true → taken' ≡ taken

@@ -8,7 +8,7 @@ use trace_rec::{Rec, What};
 
 /// The counts of a guest's records, each modulo 2^64.
 #[derive(Clone, Copy, Debug)]
-pub(crate) struct Counts {
+pub struct Counts {
     pub instructions: u64,
     pub traps: u64,
     pub disks: u64,
@@ -26,7 +26,7 @@ impl Counts {
     ghost use Rattle.host_journal.specs.Tallies.{counts_of, one_more};
 
     /// The counts of no records.
-    pub(crate) fn new() -> Counts
+    pub(crate) fn zero() -> Counts
         ensures { result ≡ counts_of [] }
     {
         Counts {

@@ -1,9 +1,9 @@
 //! The keeper of a journal and of events.
-ghost use Rattle.std.specs.Prelude.{◌≡◌, ◌⊎◌, ◌<◌, ◌++◌, ℕ, List, [], ◌∷◌, Option, length, true, false, IfOk, OnOk, OnErr};
+ghost use Rattle.std.specs.Prelude.{◌≡◌, ◌⊎◌, ◌<◌, ◌++◌, ℕ, List, [], ◌∷◌, Option, length, false, IfOk, OnOk};
 ghost use Rattle.tb_io.specs.Puts.{Takes, TakesPart};
 ghost use Rattle.host_journal.specs.Causes.{KeepCause};
 ghost use Rattle.host_journal.specs.Entries.{Entry, Host, Slot, Ran, End};
-ghost use Rattle.host_journal.specs.Keepers.{head_of, view_of, heading_of, has_failed, text_of, StandsFor};
+ghost use Rattle.host_journal.specs.Keepers.{head_of, view_of, heading_of, has_failed, text_of, StandsFor, StaysFailed};
 
 use crate::head::Head;
 use crate::keep::{Keep, KeepErr};
@@ -65,9 +65,7 @@ impl<O: Sink> Keep<O> for JournalKeep {
         ensures members { length (head_of self.new).names.items ≡ length (head_of self.old).names.items }
         ensures head { heading_of self.new ≡ heading_of self.old }
         ensures cause { KeepCause (O.faults out.old) (O.faults out.new) result }
-        ensures ok { OnOk result ((has_failed self.old ≡ false) × (has_failed self.new ≡ false)) }
-        ensures err { OnErr result (has_failed self.new ≡ true) }
-        ensures stopped { has_failed self.old ≡ true → O.taken out.new ≡ O.taken out.old }
+        ensures failing { StaysFailed self.old self.new (O.taken out.old) (O.taken out.new) result }
     {
         self.line.clear();
         let made = put_host_tick(&mut self.line, t);
@@ -80,9 +78,7 @@ impl<O: Sink> Keep<O> for JournalKeep {
         ensures members { length (head_of self.new).names.items ≡ length (head_of self.old).names.items }
         ensures head { heading_of self.new ≡ heading_of self.old }
         ensures cause { KeepCause (O.faults out.old) (O.faults out.new) result }
-        ensures ok { OnOk result ((has_failed self.old ≡ false) × (has_failed self.new ≡ false)) }
-        ensures err { OnErr result (has_failed self.new ≡ true) }
-        ensures stopped { has_failed self.old ≡ true → O.taken out.new ≡ O.taken out.old }
+        ensures failing { StaysFailed self.old self.new (O.taken out.old) (O.taken out.new) result }
     {
         self.line.clear();
         let made = put_slot(&mut self.line, s);
@@ -96,9 +92,7 @@ impl<O: Sink> Keep<O> for JournalKeep {
         ensures members { length (head_of self.new).names.items ≡ length (head_of self.old).names.items }
         ensures head { heading_of self.new ≡ heading_of self.old }
         ensures cause { KeepCause (O.faults out.old) (O.faults out.new) result }
-        ensures ok { OnOk result ((has_failed self.old ≡ false) × (has_failed self.new ≡ false)) }
-        ensures err { OnErr result (has_failed self.new ≡ true) }
-        ensures stopped { has_failed self.old ≡ true → O.taken out.new ≡ O.taken out.old }
+        ensures failing { StaysFailed self.old self.new (O.taken out.old) (O.taken out.new) result }
     {
         self.line.clear();
         let made = put_quantum(&mut self.line, q);
@@ -135,9 +129,7 @@ impl<O: Sink> Show<O> for JournalKeep {
         ensures stands { has_failed self.old ≡ false → StandsFor self.new (O.taken out.old) (O.taken out.new) [] }
         ensures members { length (head_of self.new).names.items ≡ length (head_of self.old).names.items }
         ensures head { heading_of self.new ≡ heading_of self.old }
-        ensures ok { OnOk result ((has_failed self.old ≡ false) × (has_failed self.new ≡ false)) }
-        ensures err { OnErr result (has_failed self.new ≡ true) }
-        ensures stopped { has_failed self.old ≡ true → O.taken out.new ≡ O.taken out.old }
+        ensures failing { StaysFailed self.old self.new (O.taken out.old) (O.taken out.new) result }
         ensures cause { KeepCause (O.faults out.old) (O.faults out.new) result }
     {
         self.line.clear();
@@ -151,9 +143,7 @@ impl<O: Sink> Show<O> for JournalKeep {
         ensures part { (before : Option (List ℕ)) (es : List Entry) → StandsFor self.old before (O.taken out.old) es
             → TakesPart before (O.taken out.new) (text_of self.old (es ++ End ∷ [])) }
         ensures head { heading_of self.new ≡ heading_of self.old }
-        ensures ok { OnOk result ((has_failed self.old ≡ false) × (has_failed self.new ≡ false)) }
-        ensures err { OnErr result (has_failed self.new ≡ true) }
-        ensures stopped { has_failed self.old ≡ true → O.taken out.new ≡ O.taken out.old }
+        ensures failing { StaysFailed self.old self.new (O.taken out.old) (O.taken out.new) result }
         ensures cause { KeepCause (O.faults out.old) (O.faults out.new) result }
     {
         self.line.clear();

@@ -2,8 +2,11 @@
 #![tactic(auto)]
 
 mod counts;
+mod guest_keep;
 mod guest_lines;
+mod guest_texts;
 mod head;
+mod held;
 mod journal_keep;
 mod keep;
 mod lines;
@@ -11,15 +14,15 @@ mod put;
 mod quantum;
 mod show;
 mod summary;
-mod summary_keep;
-mod trace_keep;
 mod traces;
 
+pub use guest_keep::GuestKeep;
 pub use head::Head;
+pub use held::Held;
 pub use journal_keep::JournalKeep;
 pub use keep::{Keep, KeepErr};
 pub use lines::{put_end, put_head, put_host_tick, put_quantum, put_slot};
 pub use quantum::Quantum;
 pub use show::Show;
-pub use summary_keep::SummaryKeep;
-pub use trace_keep::TraceKeep;
+pub use summary::SummaryKeep;
+pub use traces::TraceKeep;

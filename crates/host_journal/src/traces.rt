@@ -1,88 +1,75 @@
-//! Traces that are put to a sink.
-ghost use Rattle.std.specs.Prelude.{◌≡◌, ◌≤◌, ◌++◌, length, false, true, OnOk, OnErr};
-ghost use Rattle.host_journal.specs.Causes.{KeepCause};
-ghost use Rattle.host_journal.specs.Guests.{texts_below};
-ghost use Rattle.host_journal.specs.Standing.{Adds};
-ghost use Rattle.host_journal.specs.Traces.{log_at, guest_line, guest_traces, trace_lines, traces_text};
+//! The keeper of traces.
+ghost use Rattle.std.specs.Prelude.{◌≡◌, ◌++◌, [], ◌∷◌, OnOk};
+ghost use Rattle.std.specs.List.{filter};
+ghost use Rattle.host_journal.specs.Guests.{is_below};
 
-use crate::guest_lines::{put_guest, put_guests_head, put_last};
+use crate::guest_keep::GuestKeep;
+use crate::guest_lines::{put_guest, put_guests_head};
 use crate::head::Head;
+use crate::held::Held;
 use crate::keep::KeepErr;
 use crate::put::{put_line, put_shown};
-use tb_base::{Bytes, Name};
+use std::alloc::Global;
+use tb_base::{Bytes, NoMemory};
 use tb_io::Sink;
 use trace_rec::{Log, Rec, View};
 
-/// Puts the lines of a guest and its records.
-fn put_of_guest<O: Sink>(
-    failed: &mut bool,
-    line: &mut Bytes,
-    out: &mut O,
-    guest: u32,
-    name: &[u8],
-    recs: &[Rec],
-) -> Result<(), KeepErr>
-    ensures adds { Adds failed.old (O.taken out.old) failed.new (O.taken out.new) (guest_line guest name.now ++ trace_lines guest recs.now) }
-    ensures ok { OnOk result (failed.old ≡ false → failed.new ≡ false) }
-    ensures err { OnErr result (failed.new ≡ true) }
-    ensures cause { KeepCause (O.faults out.old) (O.faults out.new) result }
-{
-    line.clear();
-    let made = put_guest(line, guest, name);
-    put_line(failed, out, made, line)?;
-    put_shown(failed, line, out, View::Traces, guest, recs)
-}
+/// Keeps the records of each guest's ticks that all guests have done when the run ends, and puts
+/// them then.
+pub type TraceKeep = GuestKeep<Log>;
 
-/// Puts the lines of all guests.
-fn put_guests<O: Sink>(
-    failed: &mut bool,
-    line: &mut Bytes,
-    out: &mut O,
-    names: &[Name],
-    logs: &[Log],
-) -> Result<(), KeepErr>
-    requires each { length logs.now ≡ length names.now }
-    requires few { length names.now ≤ 32 }
-    ensures adds { Adds failed.old (O.taken out.old) failed.new (O.taken out.new) (texts_below (guest_traces names.now (log_at logs.now)) (length names.now)) }
-    ensures ok { OnOk result (failed.old ≡ false → failed.new ≡ false) }
-    ensures err { OnErr result (failed.new ≡ true) }
-    ensures cause { KeepCause (O.faults out.old) (O.faults out.new) result }
+/// Puts copies of the records of the first ticks at the end of a log.
+fn keep_recs(alloc: Global, log: &mut Log, recs: &[Rec], ticks: u64) -> Result<(), NoMemory>
+    ensures { OnOk result (log.new.items ≡ log.old.items ++ filter (is_below ticks) recs.now) }
 {
-    for i in 0..names.len() {
-        put_of_guest(
-            failed,
-            line,
-            out,
-            i as u32,
-            names[i].as_slice(),
-            logs[i].as_slice(),
-        )?;
+    for rec in recs {
+        keep_rec(alloc, log, rec, ticks)?;
     }
     Ok(())
 }
 
-/// Puts the traces, if nothing failed before.
-pub(crate) fn put_traces<O: Sink>(
-    failed: &mut bool,
-    line: &mut Bytes,
-    out: &mut O,
-    head: &Head,
-    logs: &[Log],
-) -> Result<(), KeepErr>
-    requires factor { 1 ≤ head.now.factor }
-    requires each { length logs.now ≡ length head.now.names.items }
-    requires few { length head.now.names.items ≤ 32 }
-    ensures adds { Adds failed.old (O.taken out.old) failed.new (O.taken out.new) (traces_text head.now (log_at logs.now)) }
-    ensures ok { OnOk result ((failed.old ≡ false) × (failed.new ≡ false)) }
-    ensures stopped { failed.old ≡ true → O.taken out.new ≡ O.taken out.old }
-    ensures err { OnErr result (failed.new ≡ true) }
-    ensures cause { KeepCause (O.faults out.old) (O.faults out.new) result }
+fn keep_rec(alloc: Global, log: &mut Log, rec: &Rec, ticks: u64) -> Result<(), NoMemory>
+    ensures { OnOk result (log.new.items ≡ log.old.items ++ filter (is_below ticks) (rec.now ∷ [])) }
 {
-    line.clear();
-    let made = put_guests_head(line, b"traces guests ", head);
-    put_line(failed, out, made, line)?;
-    put_guests(failed, line, out, head.names.as_slice(), logs)?;
-    line.clear();
-    let made = put_last(line);
-    put_line(failed, out, made, line)
+    if rec.tick >= ticks {
+        return Ok(());
+    }
+    log.push(rec.copy(alloc)?)
+}
+
+impl Held for Log {
+    ghost use Rattle.std.specs.Prelude.{◌≡◌};
+    ghost use Rattle.host_journal.specs.Traces.{traces_title, guest_trace};
+
+    ghost has = { λ log recs. log.items ≡ recs };
+
+    ghost title = { traces_title };
+
+    ghost shown = { guest_trace };
+
+    fn new(alloc: Global) -> Log {
+        Log::new(alloc)
+    }
+
+    fn add(&mut self, alloc: Global, recs: &[Rec], ticks: u64) -> Result<(), NoMemory> {
+        keep_recs(alloc, self, recs, ticks)
+    }
+
+    fn put_head(out: &mut Bytes, head: &Head) -> Result<(), NoMemory> {
+        put_guests_head(out, b"traces guests ", head)
+    }
+
+    fn put<O: Sink>(
+        &self,
+        failed: &mut bool,
+        line: &mut Bytes,
+        out: &mut O,
+        guest: u32,
+        name: &[u8],
+    ) -> Result<(), KeepErr> {
+        line.clear();
+        let made = put_guest(line, guest, name);
+        put_line(failed, out, made, line)?;
+        put_shown(failed, line, out, View::Traces, guest, self.as_slice())
+    }
 }
