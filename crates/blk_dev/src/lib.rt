@@ -7,9 +7,11 @@ mod blk;
 mod complete;
 mod disk;
 mod flight;
+mod law;
 mod registers;
 mod request;
 mod serve;
 mod ticks;
 
 pub use blk::Blk;
+pub use law::{due_requests_complete, requests_finish_in_order};

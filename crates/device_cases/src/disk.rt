@@ -1,6 +1,6 @@
 //! Requests of a disk, from the driver's stores to the records.
-ghost use Rattle.std.specs.Prelude.{ℕ, ◌+◌, ◌<◌, ◌^◌, length, OnOk, IfOk};
-ghost use Rattle.dev_face.specs.States.{IsSetUp, IsComing};
+ghost use Rattle.std.specs.Prelude.{◌≡◌, ◌+◌, ◌<◌, ◌^◌, length, OnOk, IfOk};
+ghost use Rattle.dev_face.specs.States.{IsComing};
 ghost use Rattle.blk_dev.specs.BlkView.{blk_state};
 
 use blk_dev::Blk;
@@ -21,33 +21,52 @@ const USED: u32 = 0x8000_0800;
 
 const HEADER: u32 = 0x8000_1000;
 
-const DATA: u32 = 0x8000_1100;
+const DATA: u32 = 0x8000_1400;
 
-/// RAM with one request of a type and a sector, and with room for so many bytes that the disk writes.
-fn request(alloc: Global, kind: u32, sector: u32, room: u32) -> Result<Ram, NoMemory> {
-    let mut ram = Ram::new(alloc, 8192)?;
-    for (addr, word) in [
+/// What the driver asks for: a type and a sector, with so many bytes behind the header that the disk reads, and with
+/// room for so many that it writes.
+#[derive(Clone, Copy)]
+struct Asked {
+    kind: u32,
+    sector: u32,
+    data: u32,
+    room: u32,
+}
+
+/// The driver puts a request, as its first descriptors, and makes it available as one of so many in all.
+fn ask(ram: &mut Ram, asked: Asked, count: u32)
+    ensures { length ram.new ≡ length ram.old }
+{
+    'words: for (addr, word) in [
         (TABLE, HEADER),
-        (TABLE + 8, 16),
+        (TABLE + 8, asked.data.wrapping_add(16)),
         (TABLE + 12, 0x0001_0001),
         (TABLE + 16, DATA),
-        (TABLE + 24, room),
+        (TABLE + 24, asked.room),
         (TABLE + 28, 0x0000_0002),
-        (AVAILABLE, 0x0001_0000),
-        (HEADER, kind),
-        (HEADER + 8, sector),
+        (AVAILABLE, count.wrapping_mul(0x0001_0000)),
+        (HEADER, asked.kind),
+        (HEADER + 8, asked.sector),
     ] {
         let _ = ram.store(addr, Width::Word, word);
     }
-    Ok(ram)
+}
+
+/// The driver stores a word to a register, between two ticks.
+fn tell(disk: &mut Blk, now: u64, ram: &Ram, off: u32, value: u32)
+    requires { IsComing now (length ram.now) (blk_state disk.old) }
+    ensures { IsComing now (length ram.now) (blk_state disk.new) }
+{
+    let register = off / 4;
+    let _ = disk.store(now, 4 * register, Width::Word, value);
 }
 
 /// The driver brings the disk up, as section 3.1.1 of the standard says, and notifies its queue.
-fn bring_up(disk: &mut Blk)
-    requires { IsSetUp (blk_state disk.old) }
-    ensures { (tick n : ℕ) → IsComing tick n (blk_state disk.old) → IsComing tick n (blk_state disk.new) }
+fn bring_up(disk: &mut Blk, now: u64, ram: &Ram)
+    requires { IsComing now (length ram.now) (blk_state disk.old) }
+    ensures { IsComing now (length ram.now) (blk_state disk.new) }
 {
-    for (off, value) in [
+    'words: for (off, value) in [
         (0x70, 3),
         (0x20, 0x200),
         (0x24, 1),
@@ -61,8 +80,7 @@ fn bring_up(disk: &mut Blk)
         (0x70, 15),
         (0x50, 0),
     ] {
-        let word = off / 4;
-        let _ = disk.store(10, 4 * word, Width::Word, value);
+        tell(disk, now, ram, off, value);
     }
 }
 
@@ -86,7 +104,7 @@ fn taken(alloc: Global, ram: &mut Ram, log: &mut Log) -> Result<Blk, NoMemory>
     disk.skip_to(10);
     let mut frames = ItemList::new(alloc);
     disk.begin_tick(10, ram, &mut frames, log)?;
-    bring_up(&mut disk);
+    bring_up(&mut disk, 11, ram);
     disk.end_tick(10, ram, &mut frames, log)?;
     Ok(disk)
 }
@@ -109,83 +127,155 @@ fn pass(
     Ok(())
 }
 
-/// The disk makes the ticks 11 to 15.
-fn wait(alloc: Global, disk: &mut Blk, ram: &mut Ram, log: &mut Log) -> Result<(), NoMemory>
-    requires { IsComing 11 (length ram.old) (blk_state disk.old) }
+/// The disk makes five ticks from this one on.
+fn wait(
+    alloc: Global,
+    disk: &mut Blk,
+    now: u64,
+    ram: &mut Ram,
+    log: &mut Log,
+) -> Result<(), NoMemory>
+    requires coming { IsComing now (length ram.old) (blk_state disk.old) }
+    requires early { now < 2 ^ 20 }
+    ensures { OnOk result (IsComing (now + 5) (length ram.new) (blk_state disk.new)) }
 {
-    pass(alloc, disk, 11, ram, log)?;
-    pass(alloc, disk, 12, ram, log)?;
-    pass(alloc, disk, 13, ram, log)?;
-    pass(alloc, disk, 14, ram, log)?;
-    pass(alloc, disk, 15, ram, log)?;
+    pass(alloc, disk, now, ram, log)?;
+    pass(alloc, disk, now + 1, ram, log)?;
+    pass(alloc, disk, now + 2, ram, log)?;
+    pass(alloc, disk, now + 3, ram, log)?;
+    pass(alloc, disk, now + 4, ram, log)?;
     Ok(())
 }
 
-/// The type, the sector, the bytes and the status that the only record tells, in the tick 15.
-fn told(log: &Log) -> Option<(u32, u64, u32, u8)> {
-    let rec = log.get(0)?;
+/// The tick, the type, the sector, the bytes and the status that the last record tells.
+fn told(log: &Log) -> Option<(u64, u32, u64, u32, u8)> {
+    let rec = log.as_slice().last()?;
     match &rec.what {
         What::DiskDone {
+            disk: 0,
             kind,
             sector,
             bytes,
             status,
-            ..
-        } if rec.tick == 15 && log.len() == 1 => Some((*kind, *sector, *bytes, *status)),
+        } => Some((rec.tick, *kind, *sector, *bytes, *status)),
         _ => None,
     }
 }
 
+/// What the only request of a disk comes to: the record, the length and the first word of what was written, and the status.
+fn outcome(
+    alloc: Global,
+    asked: Asked,
+) -> Result<(Option<(u64, u32, u64, u32, u8)>, [u32; 3]), NoMemory> {
+    let mut log = Log::new(alloc);
+    let mut ram = Ram::new(alloc, 8192)?;
+    ask(&mut ram, asked, 1);
+    let mut disk = taken(alloc, &mut ram, &mut log)?;
+    wait(alloc, &mut disk, 11, &mut ram, &mut log)?;
+    let status = DATA.wrapping_add(asked.room).wrapping_sub(1);
+    Ok((
+        told(&log),
+        [
+            ram.load(USED + 8, Width::Word).unwrap_or(99),
+            ram.load(DATA, Width::Word).unwrap_or(99),
+            ram.load(status, Width::Byte).unwrap_or(99),
+        ],
+    ))
+}
+
+/// Reads, writes, flushes and requests of no known type, well formed and not.
 #[test]
-fn a_read_completes_in_its_tick(rt: HostRuntime) -> Result<(), Fail> {
+fn requests_complete_in_their_tick(rt: HostRuntime) -> Result<(), Fail> {
+    for ((kind, sector, data, room), bytes, status, words) in [
+        ((0, 0, 0, 513), 512, 0, [513, 0x0009_0807, 0]),
+        ((0, 1, 0, 513), 512, 1, [0, 0, 1]),
+        ((0, 0, 0, 257), 256, 1, [0, 0, 1]),
+        ((0, 1, 0, 1), 0, 0, [1, 0, 0]),
+        ((0, 2, 0, 1), 0, 1, [1, 1, 1]),
+        ((1, 0, 512, 1), 512, 0, [1, 0, 0]),
+        ((1, 0, 512, 2), 512, 0, [0, 0, 0]),
+        ((1, 1, 512, 1), 512, 1, [1, 1, 1]),
+        ((1, 0, 513, 1), 513, 1, [1, 1, 1]),
+        ((4, 9, 0, 1), 0, 0, [1, 0, 0]),
+        ((8, 0, 0, 1), 0, 2, [1, 2, 2]),
+        ((8, 0, 0, 2), 0, 2, [0, 0x200, 2]),
+    ] {
+        let asked = Asked {
+            kind,
+            sector,
+            data,
+            room,
+        };
+        let (told, found) = outcome(rt.alloc(), asked)?;
+        assert_eq!(rt; told, Some((15, kind, u64::from(sector), bytes, status)));
+        assert!(rt; found == words, "type {kind}, sector {sector}, room {room}");
+    }
+    Ok(())
+}
+
+/// What was written to the disk is read from it by a second request, which begins when the first one has ended.
+#[test]
+fn what_is_written_is_read(rt: HostRuntime) -> Result<(), Fail> {
     let alloc = rt.alloc();
     let mut log = Log::new(alloc);
-    let mut ram = request(alloc, 0, 0, 513)?;
+    let mut ram = Ram::new(alloc, 8192)?;
+    let write = Asked {
+        kind: 1,
+        sector: 0,
+        data: 512,
+        room: 1,
+    };
+    ask(&mut ram, write, 1);
+    let _ = ram.store(HEADER + 16, Width::Word, 0x0403_0201);
     let mut disk = taken(alloc, &mut ram, &mut log)?;
-    assert!(rt; disk.end_idle() && disk.next_due() == Some(15));
-    wait(alloc, &mut disk, &mut ram, &mut log)?;
-    assert_eq!(rt; told(&log), Some((0, 0, 512, 0)));
-    for (addr, want) in [
-        (DATA, 0x0009_0807),
-        (DATA + 512, 0),
-        (USED, 0x0001_0000),
-        (USED + 4, 0),
-        (USED + 8, 513),
-    ] {
+    // The bytes are those that stand in RAM when the request completes.
+    let _ = ram.store(HEADER + 20, Width::Word, 5);
+    wait(alloc, &mut disk, 11, &mut ram, &mut log)?;
+    assert!(rt; disk.lines(15).external && disk.next_due().is_none());
+    let read = Asked {
+        kind: 0,
+        sector: 0,
+        data: 0,
+        room: 513,
+    };
+    ask(&mut ram, read, 2);
+    tell(&mut disk, 16, &ram, 0x50, 0);
+    pass(alloc, &mut disk, 16, &mut ram, &mut log)?;
+    wait(alloc, &mut disk, 17, &mut ram, &mut log)?;
+    assert_eq!(rt; told(&log), Some((21, 0, 0, 512, 0)));
+    for (addr, want) in [(DATA, 0x0403_0201), (DATA + 4, 5), (USED, 0x0002_0000)] {
         assert!(rt; ram.load(addr, Width::Word) == Ok(want), "at {addr:x}");
     }
     Ok(())
 }
 
+/// A reset, and a queue that goes down, forget the request in flight, which is served again once the driver has brought the
+/// disk up anew: from when the disk was busy until with what is forgotten.
 #[test]
-fn a_read_past_the_end_moves_nothing(rt: HostRuntime) -> Result<(), Fail> {
-    let alloc = rt.alloc();
-    let mut log = Log::new(alloc);
-    let mut ram = request(alloc, 0, 1, 513)?;
-    let mut disk = taken(alloc, &mut ram, &mut log)?;
-    wait(alloc, &mut disk, &mut ram, &mut log)?;
-    assert_eq!(rt; told(&log), Some((0, 1, 512, 1)));
-    for (addr, want) in [
-        (DATA, 0),
-        (DATA + 512, 1),
-        (USED, 0x0001_0000),
-        (USED + 8, 0),
-    ] {
-        assert!(rt; ram.load(addr, Width::Word) == Ok(want), "at {addr:x}");
+fn requests_in_flight_are_forgotten(rt: HostRuntime) -> Result<(), Fail> {
+    for off in [0x70, 0x44] {
+        let alloc = rt.alloc();
+        let mut log = Log::new(alloc);
+        let mut ram = Ram::new(alloc, 8192)?;
+        let flush = Asked {
+            kind: 4,
+            sector: 0,
+            data: 0,
+            room: 1,
+        };
+        ask(&mut ram, flush, 1);
+        let mut disk = taken(alloc, &mut ram, &mut log)?;
+        assert!(rt; disk.end_idle() && disk.next_due() == Some(15));
+        tell(&mut disk, 11, &ram, off, 0);
+        assert!(rt; disk.end_idle() && disk.next_due().is_none());
+        bring_up(&mut disk, 11, &ram);
+        pass(alloc, &mut disk, 11, &mut ram, &mut log)?;
+        assert!(rt; disk.next_due() == Some(20));
+        wait(alloc, &mut disk, 12, &mut ram, &mut log)?;
+        assert!(rt; log.len() == 0 && ram.load(USED, Width::Word) == Ok(0));
+        wait(alloc, &mut disk, 17, &mut ram, &mut log)?;
+        assert_eq!(rt; told(&log), Some((20, 4, 0, 0, 0)));
     }
-    Ok(())
-}
-
-#[test]
-fn an_unknown_type_is_not_supported(rt: HostRuntime) -> Result<(), Fail> {
-    let alloc = rt.alloc();
-    let mut log = Log::new(alloc);
-    let mut ram = request(alloc, 8, 0, 1)?;
-    let mut disk = taken(alloc, &mut ram, &mut log)?;
-    wait(alloc, &mut disk, &mut ram, &mut log)?;
-    assert_eq!(rt; told(&log), Some((8, 0, 0, 2)));
-    assert!(rt; ram.load(DATA, Width::Word) == Ok(2));
-    assert!(rt; ram.load(USED + 8, Width::Word) == Ok(1));
     Ok(())
 }
 
@@ -193,7 +283,14 @@ fn an_unknown_type_is_not_supported(rt: HostRuntime) -> Result<(), Fail> {
 fn a_looping_chain_breaks_the_disk(rt: HostRuntime) -> Result<(), Fail> {
     let alloc = rt.alloc();
     let mut log = Log::new(alloc);
-    let mut ram = request(alloc, 0, 0, 513)?;
+    let mut ram = Ram::new(alloc, 8192)?;
+    let read = Asked {
+        kind: 0,
+        sector: 0,
+        data: 0,
+        room: 513,
+    };
+    ask(&mut ram, read, 1);
     // The second descriptor names the first one.
     let _ = ram.store(TABLE + 28, Width::Word, 0x0000_0001);
     let disk = taken(alloc, &mut ram, &mut log)?;
