@@ -101,7 +101,11 @@ static int is_right(void)
     say("a disk of ");
     say_number(block_sectors());
     say(" sectors\n");
-    return block_sectors() == SECTORS && read_label() && write_text() && read_all() && read_past_end();
+    if (block_sectors() != SECTORS) {
+        say("wrong: another number is wanted\n");
+        return 0;
+    }
+    return read_label() && write_text() && read_all() && read_past_end();
 }
 
 void main(void)
