@@ -1,3 +1,1 @@
-pub mod Loads
-pub mod Openings
 pub mod Popped
