@@ -43,10 +43,8 @@ takes_less k disks m (suc n) less = elim (cases_eq m n) [
   | inr ne ↦ omega (arith, takes_less k disks m n (omega (arith, less, ne)))
 ]
 
--- a list of configurations takes what its parts take
-pub number_append : (k : Kind) (cs ds : List DevConfig) → number_for k (cs ++ ds) ≡ number_for k cs + number_for k ds
-number_append k [] ds = refl
-number_append k (c ∷ cs) ds = omega (arith, number_append k cs ds)
+pub takes_more : (k : Kind) (disks : ℕ → List DevConfig) (n : ℕ) → guests_take k disks (n + 1) ≡ guests_take k disks n + number_for k (with_base (disks n))
+takes_more k disks n = let next : n + 1 ≡ suc n = omega arith in ap (guests_take k disks) next
 
 -- a stock that is short is a reason why a bench is not built
 pub unbuilt : (e : Experiment) (had : Kind → ℕ) (f : BuildFault) → IsShort e had f → IsUnbuilt e had f

@@ -1,9 +1,9 @@
 -- Machines that are made one after another, and what of a list stands at a place.
-use Rattle.std.proofs.Common.{◌≡◌, ℕ, zero, suc, ◌<◌, List, [], ◌∷◌, ◌++◌, map, length, All, Option, Some, None, refl, sym, ap, ◌∙◌, subst, arith}
-use Rattle.std.specs.Prelude.{slice_get, Ok, Err}
+use Rattle.std.proofs.Common.{◌≡◌, ℕ, zero, suc, ◌<◌, List, [], ◌∷◌, ◌++◌, map, length, All, get_or, Option, Some, None, refl, sym, ap, ◌∙◌, subst, arith}
+use Rattle.std.specs.Prelude.{slice_get, Result, Ok, Err, IfOk}
 use Rattle.std.specs.List.{flat_map}
 use Rattle.std.specs.Option.{option_map}
-use Rattle.std.proofs.lemmas.Option.{slice_get-map}
+use Rattle.std.proofs.lemmas.Option.{slice_get-map, slice_get_read}
 use Rattle.dev_face.specs.States.{DevState}
 use Rattle.exp_file.specs.declared.guest_spec.GuestSpec.{GuestSpec}
 use Rattle.exp_file.specs.declared.link_spec.LinkSpec.{LinkSpec}
@@ -21,11 +21,20 @@ some_is e = cc
 none_is_some : {A B : Type 0} {x : A} → None ≡ Some x → B
 none_is_some e = cc
 
+-- what follows from what an answer says where it is good
+pub ok_then : {T E : Type 0} (r : Result T E) {P Q : T → Type 0} → IfOk r P → ((x : T) → P x → Q x) → IfOk r Q
+ok_then (Ok x) p f = f x p
+ok_then (Err e) p f = p
+
 -- a list has something at each of its places
 pub some_at : {A : Type 0} (xs : List A) (i : ℕ) → i < length xs → (x : A) × (slice_get xs i ≡ Some x)
 some_at [] i lt = absurd (omega arith)
 some_at (x ∷ xs) zero lt = (x, refl)
 some_at (x ∷ xs) (suc i) lt = some_at xs i (omega (arith, lt))
+
+-- what a read finds is what stands there
+pub read_is : {A : Type 0} (xs : List A) (i n : ℕ) (x y : A) → i ≡ n → i < length xs → x ≡ get_or xs i x → slice_get xs n ≡ Some y → x ≡ y
+read_is xs i n x y e lt is at = some_is (sym (slice_get_read xs (length xs) i x refl lt is) ∙ ap (slice_get xs) e ∙ at)
 
 -- what holds of all holds of the one at a place
 pub all_get : {A : Type 0} (P : A → Type 0) (xs : List A) (i : ℕ) (x : A) → All P xs → slice_get xs i ≡ Some x → P x
