@@ -1,11 +1,11 @@
 -- One machine more is that of the next guest.
-use Rattle.std.proofs.Common.{◌≡◌, ◌<◌, List, [], ◌∷◌, ◌++◌, length, map, All, refl, sym, ap, ◌∙◌, subst, arith}
+use Rattle.std.proofs.Common.{◌≡◌, ◌<◌, List, [], ◌∷◌, ◌++◌, length, map, get_or, All, sym, ap, ◌∙◌, subst, arith}
 use Rattle.std.specs.Prelude.{slice_get, Some}
 use Rattle.std.proofs.lemmas.Iterator.Adapters.{YieldsList-from_vec}
 use Rattle.std.proofs.lemmas.Iterator.Consumers.{YieldsList-turn}
 use Rattle.std.proofs.lemmas.List.{map_push, length_push}
 use Rattle.std.proofs.lemmas.List.Elements.{All-push}
-use Rattle.std.proofs.lemmas.Option.{slice_get_read}
+use Rattle.std.proofs.lemmas.Option.{slice_get-get_or}
 use Rattle.dev_face.specs.States.{opening as opened}
 use Rattle.dev_face.specs.declared.config.DevConfig.{DevConfig}
 use Rattle.exp_file.specs.declared.guest_spec.GuestSpec.{GuestSpec}
@@ -49,12 +49,12 @@ loop-image-preserved g c =
     let made = c.in_ok-machine.machine in
     let guests = c.args.guests.now in
     let image = c.in-Some.image in
-    let spec : GuestSpec = c.index-guests-index.result in
+    let spec : GuestSpec = get_or guests c.len-index.result c.index-guests-index.result in
     let disks = disks_at c.args.disks.now in
     let here : c.len-index.result ≡ length l.yielded = omega (arith, c.len-index.ensures, l.invariant.count) in
     let within : length l.yielded < length guests = omega (arith, t.0, c.requires.all) in
     let at : slice_get guests (length l.yielded) ≡ Some spec =
-        sym (ap (slice_get guests) here) ∙ slice_get_read guests (length guests) c.len-index.result spec refl (omega (arith, here, within)) c.index-guests-index.is in
+        sym (ap (slice_get guests) here) ∙ slice_get-get_or guests c.len-index.result c.index-guests-index.result (omega (arith, here, within)) in
     let same : disks (length l.yielded) ≡ c.deref.result.now =
         ap disks (sym here)
         ∙ disks_held c.args.disks.now c.index-disks-index.result c.len-index.result c.index-disks-index.is (omega (arith, here, within, c.requires.lists))
