@@ -2,9 +2,9 @@
 #![tactic(auto)]
 
 mod arrays;
-mod book;
 mod disk_spec;
 mod disks;
+mod each;
 mod exp_fault;
 mod exp_why;
 mod experiment;
