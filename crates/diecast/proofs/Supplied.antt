@@ -1,7 +1,8 @@
 -- The boxes of the program are enough for every experiment.
-use Rattle.std.proofs.Common.{◌≡◌, ℕ, ◌≤◌, ◌==◌, Bool, true, false, if◌then◌else◌, List, [], ◌∷◌, All, map, Result, Ok, Err, length, refl, sym, subst, arith}
+use Rattle.std.proofs.Common.{◌≡◌, ℕ, ◌≤◌, ◌==◌, ◌&&◌, Bool, true, false, if◌then◌else◌, List, [], ◌∷◌, All, map, Result, Ok, Err, length, refl, ◌∙◌, subst, arith}
 use Rattle.std.specs.List.{sum, list_all}
 use Rattle.std.proofs.Math.Path.{fun_ext}
+use Rattle.std.proofs.lemmas.Bool.{eqb-true}
 use Rattle.dev_face.specs.States.{DevState, Blank}
 use Rattle.dev_face.specs.declared.kind.Kind.{Kind}
 use Rattle.dev_face.specs.declared.kind.Kind.TheVariants as kind
@@ -10,7 +11,7 @@ use Rattle.exp_file.specs.Rows.{◌>>=◌}
 use Rattle.exp_file.specs.declared.exp_fault.ExpFault.{ExpFault}
 use Rattle.exp_file.specs.declared.experiment.Experiment.{Experiment}
 use Rattle.exp_file.specs.declared.guest_spec.GuestSpec.{GuestSpec}
-use Rattle.bench_build.specs.Stocks.{Suffices, IsStock, counts}
+use Rattle.bench_build.specs.Stocks.{needs, Suffices, IsStock, counts}
 use Rattle.bench_build.specs.declared.build_fault.BuildFault.TheVariants as build
 use Rattle.tb_top.specs.Ends.{Ends}
 use Rattle.tb_top.specs.World.{World}
@@ -29,17 +30,30 @@ unfolding built
 after_said (Ok f) e h = if_built f e _ (is_built f) refl h
 after_said (Err x) e h = absurd (cc h)
 
+both_true : (a b : Bool) → (a && b) ≡ true → (a ≡ true) × (b ≡ true)
+both_true true true h = (refl, refl)
+both_true true false h = absurd (cc h)
+both_true false b h = absurd (cc h)
+
 no_nics : (gs : List GuestSpec) → list_all (λ g. g.nics == 0) gs ≡ true → sum (map (λ g. g.nics) gs) ≡ 0
 no_nics [] h = refl
-no_nics (g ∷ gs) h = ?
+no_nics (g ∷ gs) h =
+    let k = both_true (g.nics == 0) (list_all (λ x. x.nics == 0) gs) h in
+    omega (arith, eqb-true g.nics 0 k.0, no_nics gs k.1)
 
 -- an experiment that a file says has 32 guests and 64 disks at most
 abbrev pub AreFew : Type 0
 AreFew = (b : List ℕ) (e : Experiment) → reading b ≡ Ok e → (length e.guests.items ≤ 32) × (length e.disks.items ≤ 64)
 
+enough : (e : Experiment) → length e.guests.items ≤ 32 → length e.disks.items ≤ 64 → is_built e ≡ true → (k : Kind) → needs e k ≤ boxes k
+enough e guests disks is kind.Clint = guests
+enough e guests disks is kind.Uart = guests
+enough e guests disks is kind.Blk = disks
+enough e guests disks is kind.Net = omega (arith, no_nics e.guests.items (both_true (length e.links.items == 0) (list_all (λ g. g.nics == 0) e.guests.items) is).1)
+
 pub boxes_suffice : AreFew → (b : List ℕ) (e : Experiment) → reading b ≡ Ok e → Suffices e boxes
 unfolding reading
-boxes_suffice few b e read = record { of = ? }
+boxes_suffice few b e read = record { of = enough e (few b e read).0 (few b e read).1 (after_said (said b) e read) }
 
 -- the lists of the program are a stock with so many boxes of each kind
 pub is_stock : {A : Type 0} (state : A → DevState) (clints uarts blks : List A) → All (λ s. s ≡ Blank kind.Clint) (map state clints) → All (λ s. s ≡ Blank kind.Uart) (map state uarts)

@@ -1,4 +1,3 @@
 pub mod Claims
-pub mod Few
 pub mod Loading
 pub mod Putting

@@ -52,16 +52,14 @@ module _ (old new : FilesSeen) (e : Experiment) (slots : List ℕ) (first : Buil
   image_at : (r : Result (Unit {0}) BuildFault) → (slice_get e.guests.items (length k.inputs.images) ≡ Some g → ImageAnswers (length k.inputs.images) g b r) → ImageAnswers i g b r
   image_at r = answered e.guests.items i g guests all lt at_i (λ n. ImageAnswers n g b r) (length k.inputs.images) (sym k.building.count ∙ next)
 
-  image_unloaded : (fault : BuildFault) → ImageAnswers i g b (Err fault) → OrMemory (Unloaded old new e) (build_status fault)
-  image_unloaded (build.Image j fault) (same, bad) =
-      stopped e.guests.items i g guests all lt at_i (λ gs. AreLoaded old.held gs []) (λ h. HasRead (old.held h.image) image_limit (λ z. IsFault h z fault)) k.inputs j same k.loaded
-      (record { bytes = b; read = read; holds = bad })
-  image_unloaded build.NoMemory answer = tt
-  image_unloaded _ answer = absurd answer
-
   pub image_refused : (fault : BuildFault) → (slice_get e.guests.items (length k.inputs.images) ≡ Some g → ImageAnswers (length k.inputs.images) g b (Err fault))
       → OrMemory (Unloaded old new e) (build_status fault)
-  image_refused fault answer = image_unloaded fault (image_at (Err fault) answer)
+  image_refused (build.Image j fault) answer =
+      let bad = image_at (Err (build.Image j fault)) answer in
+      stopped e.guests.items i g guests all lt at_i (λ gs. AreLoaded old.held gs []) (λ h. HasRead (old.held h.image) image_limit (λ z. IsFault h z fault)) k.inputs j bad.0 k.loaded
+      (record { bytes = b; read = read; holds = bad.1 })
+  image_refused build.NoMemory answer = tt
+  image_refused fault answer = absurd (image_at (Err fault) answer)
 
   pub image_taken : (last : Builder) → new ≡ old → (slice_get e.guests.items (length k.inputs.images) ≡ Some g → IsTaken g b)
       → IsBuilding e slots (with_image k.inputs b) last → HasTaken new (take (i + 1) e.guests.items) [] e slots last
@@ -76,16 +74,14 @@ module _ (old new : FilesSeen) (e : Experiment) (slots : List ℕ) (first : Buil
   disk_at : (r : Result (Unit {0}) BuildFault) → (slice_get e.disks.items (length k.inputs.disks) ≡ Some d → DiskAnswers (length k.inputs.disks) d b r) → DiskAnswers j d b r
   disk_at r = answered e.disks.items j d disks all lt at_j (λ n. DiskAnswers n d b r) (length k.inputs.disks) (ap length (sym k.building.contents) ∙ next)
 
-  disk_unloaded : (fault : BuildFault) → DiskAnswers j d b (Err fault) → OrMemory (Unloaded old new e) (build_status fault)
-  disk_unloaded (build.DiskSize n len room) (same, len_is, room_is, over) =
-      stopped e.disks.items j d disks all lt at_j (AreLoaded old.held e.guests.items) (Overfills old.held len room) k.inputs n same k.loaded
-      (record { bytes = b; read = read; len_is = len_is; room_is = room_is; over = over })
-  disk_unloaded build.NoMemory answer = tt
-  disk_unloaded _ answer = absurd answer
-
   pub disk_refused : (fault : BuildFault) → (slice_get e.disks.items (length k.inputs.disks) ≡ Some d → DiskAnswers (length k.inputs.disks) d b (Err fault))
       → OrMemory (Unloaded old new e) (build_status fault)
-  disk_refused fault answer = disk_unloaded fault (disk_at (Err fault) answer)
+  disk_refused (build.DiskSize n len room) answer =
+      let bad = disk_at (Err (build.DiskSize n len room)) answer in
+      stopped e.disks.items j d disks all lt at_j (AreLoaded old.held e.guests.items) (Overfills old.held len room) k.inputs n bad.0 k.loaded
+      (record { bytes = b; read = read; len_is = bad.1; room_is = bad.2; over = bad.3 })
+  disk_refused build.NoMemory answer = tt
+  disk_refused fault answer = absurd (disk_at (Err fault) answer)
 
   pub disk_taken : (last : Builder) → new ≡ old → (slice_get e.disks.items (length k.inputs.disks) ≡ Some d → Fills d b)
       → IsBuilding e slots (with_disk k.inputs b) last → HasTaken new e.guests.items (take (j + 1) e.disks.items) e slots last
