@@ -1,5 +1,6 @@
 //! The builder of a bench.
 ghost use Rattle.std.specs.Prelude.{◌≡◌, ℕ, ◌+◌, ◌<◌, ◌≤◌, List, length, slice_get, Some, true, false, OnOk, OnErr, IfOk, IfErr};
+ghost use Rattle.std.specs.Option.{option_copied};
 ghost use Rattle.std.proofs.Props.{props};
 ghost use Rattle.exp_file.specs.Reading.{is_built};
 ghost use Rattle.exp_file.specs.WellFormed.{IsWellFormed};
@@ -102,11 +103,11 @@ impl<'a> Builder<'a> {
     pub fn add_disk(&mut self, content: Option<&[u8]>) -> Result<(), BuildFault>
         requires { disks_added self.old < disks_wanted self.old }
         ensures building { OnOk result ((e : Experiment) (slots : List ℕ) (i : Inputs) →
-            IsBuilding e slots i self.old → IsBuilding e slots (with_disk i (content_of content.now)) self.new) }
+            IsBuilding e slots i self.old → IsBuilding e slots (with_disk i (content_of (option_copied content.entry))) self.new) }
         ensures kept { OnErr result ((e : Experiment) (slots : List ℕ) (i : Inputs) →
             IsBuilding e slots i self.old → IsBuilding e slots i self.new) }
         ensures answer { (e : Experiment) (slots : List ℕ) (i : Inputs) (d : DiskSpec) →
-            IsBuilding e slots i self.old → slice_get e.disks.items (length i.disks) ≡ Some d → DiskAnswers (length i.disks) d (content_of content.now) result }
+            IsBuilding e slots i self.old → slice_get e.disks.items (length i.disks) ≡ Some d → DiskAnswers (length i.disks) d (content_of (option_copied content.entry)) result }
         ensures images_wanted { images_wanted self.new ≡ images_wanted self.old }
         ensures disks_wanted { disks_wanted self.new ≡ disks_wanted self.old }
         ensures images_added { images_added self.new ≡ images_added self.old }

@@ -1,6 +1,6 @@
 //! Disks and what they hold at first.
-ghost use Rattle.std.specs.Prelude.{◌≡◌, ℕ, ◌<◌, ◌≤◌, All, length, IfOk};
-ghost use Rattle.exp_file.specs.Disks.{disks_of};
+ghost use Rattle.std.specs.Prelude.{◌≡◌, ℕ, ◌<◌, ◌≤◌, [], All, length, IfOk};
+ghost use Rattle.std.specs.Option.{option_copied};
 ghost use Rattle.bench_build.specs.Answers.{ContentAnswers};
 ghost use Rattle.bench_build.specs.Inputs.{content_of};
 ghost use Rattle.bench_build.specs.Setups.{disk_config, disk_configs};
@@ -23,7 +23,7 @@ pub(crate) fn content_for(
     spec: &DiskSpec,
     content: Option<&[u8]>,
 ) -> Result<Bytes, BuildFault>
-    ensures { ContentAnswers disk spec.now (content_of content.now) result }
+    ensures { ContentAnswers disk spec.now (content_of (option_copied content.entry)) result }
 {
     let bytes = content.unwrap_or(&[]);
     let len = bytes.len() as u64;
@@ -79,7 +79,7 @@ pub(crate) fn disks_by_guest(
 ) -> Result<Vec<Vec<DevConfig>>, NoMemory>
     requires all { length contents.items ≡ length specs.now }
     requires guests { All (λ d. d.guest < guests) specs.now }
-    requires few { (g : ℕ) → disks_of g specs.now ≤ 2 }
+    requires few { length specs.now ≤ 64 }
     ensures count { IfOk result (λ lists. length lists.items ≡ guests) }
     ensures disks { IfOk result (λ lists. (g : ℕ) → g < guests → disks_at lists.items g ≡ disk_configs g 0 specs.now contents.items) }
 {

@@ -4,7 +4,6 @@ ghost use Rattle.dev_face.specs.States.{opening as opened};
 ghost use Rattle.dev_face.specs.declared.kind.Kind.{Kind};
 ghost use Rattle.exp_file.specs.WellFormed.{IsWellFormed};
 ghost use Rattle.exp_file.specs.declared.disk_spec.DiskSpec.{DiskSpec};
-ghost use Rattle.exp_file.specs.declared.guest_spec.GuestSpec.{GuestSpec};
 ghost use Rattle.lookahead_core.specs.Motion.{Idle};
 ghost use Rattle.guest_machine.specs.MachineView.{machine_state, machine_clock};
 ghost use Rattle.guest_machine.specs.Opening.{opening};
@@ -13,7 +12,6 @@ ghost use Rattle.bench_build.specs.Openings.{openings};
 ghost use Rattle.bench_build.specs.Setups.{disk_configs};
 ghost use Rattle.bench_build.specs.Stocks.{IsStock, counts, items_of, Suffices};
 ghost use Rattle.bench_build.specs.Takings.{AreDisks, number_for, with_base, disks_at, guests_take};
-ghost use Rattle.bench_build.specs.declared.loaded.Loaded.{Loaded};
 
 use crate::devices::devices_for;
 use crate::disks::disks_by_guest;
@@ -100,9 +98,8 @@ pub(crate) fn all_machines<D: Device>(
     requires one_each { length stock.old ≡ 4 }
     requires stock { IsStock D.state (items_of stock.old) }
     requires enough { Suffices e.now (counts (items_of stock.old)) }
-    ensures states { IfOk result (λ machines. (g : ℕ) (m : Machine D) (guest : GuestSpec) (l : Loaded) →
-        slice_get machines.items g ≡ Some m → slice_get e.now.guests.items g ≡ Some guest → slice_get loaded.items g ≡ Some l →
-        machine_state m ≡ opening guest.rate l.entry l.ram (map opened (with_base (disk_configs g 0 e.now.disks.items contents.items)))) }
+    ensures states { IfOk result (λ machines. map machine_state machines.items
+        ≡ openings (λ g. map opened (with_base (disk_configs g 0 e.now.disks.items contents.items))) e.now.guests.items loaded.items) }
     ensures count { IfOk result (λ machines. length machines.items ≡ length loaded.items) }
     ensures idle { IfOk result (λ machines. All (λ m. machine_clock m ≡ Idle 0) machines.items) }
 {
