@@ -1,0 +1,4 @@
+pub mod Delivering
+pub mod Joining
+pub mod Sending
+pub mod Storing
