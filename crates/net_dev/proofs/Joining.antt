@@ -60,6 +60,6 @@ along_more now nic b0 b b' fs f log0 log log' a is more front =
     record {
       backlog = is ∙ ap (λ (x : List (List ℕ)). (joined now nic x (f ∷ [])).backlog) a.backlog ∙ sym p.backlog;
       recs = more ∙ ap (λ (x : List (List ℕ)). log ++ (joined now nic x (f ∷ [])).recs) a.backlog ∙ ap (λ (x : List Rec). x ++ (joined now nic b1 (f ∷ [])).recs) a.recs
-      ∙ append_assoc log0 (joined now nic b0 fs).recs (joined now nic b1 (f ∷ [])).recs ∙ ap (λ (x : List Rec). log0 ++ x) (sym p.recs);
+          ∙ append_assoc log0 (joined now nic b0 fs).recs (joined now nic b1 (f ∷ [])).recs ∙ ap (λ (x : List Rec). log0 ++ x) (sym p.recs);
       front = front_of log0 log log' a.front front;
     }
