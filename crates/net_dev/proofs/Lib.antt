@@ -1,3 +1,4 @@
+pub mod Arriving
 pub mod Delivering
 pub mod Joining
 pub mod Sending

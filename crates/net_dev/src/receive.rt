@@ -6,6 +6,7 @@ ghost use Rattle.dev_face.specs.Queues.{put_with};
 ghost use Rattle.dev_face.specs.NetCalls.{deliver_one, delivered, frame_put, net_header};
 ghost use Rattle.net_dev.specs.Backlogs.{first_frame};
 
+use crate::header::{HEADER, HEADER_LEN};
 use dev_face::{break_down, put_back};
 use guest_ram::Ram;
 use split_queue::{Chain, SplitQueue, Took};
@@ -13,9 +14,6 @@ use std::collections::VecDeque;
 use tb_base::{Frame, NoMemory, Why};
 use trace_rec::{Log, Rec, What};
 use virtio_regs::Regs;
-
-/// The header of a frame, which says that it takes one buffer.
-const HEADER: [u8; 12] = [0, 0, 0, 0, 0, 0, 0, 0, 0, 0, 1, 0];
 
 /// Takes the first frame that waits, where it fits with its header into so many bytes.
 fn take_fitting(backlog: &mut VecDeque<Frame>, room: u64) -> Option<Frame>
@@ -26,7 +24,7 @@ fn take_fitting(backlog: &mut VecDeque<Frame>, room: u64) -> Option<Frame>
     ensures kept { IfNone result (backlog.new.items ≡ backlog.old.items) }
 {
     let first = backlog.front()?;
-    if room < 12 + first.bytes().len() as u64 {
+    if room < HEADER_LEN + first.bytes().len() as u64 {
         return None;
     }
     backlog.pop_front()
@@ -41,8 +39,8 @@ fn put_frame(chain: &Chain, frame: &Frame, ram: &mut Ram) -> u32
     ensures size { length ram.new ≡ length ram.old }
 {
     chain.write_at(ram, 0, &HEADER);
-    chain.write_at(ram, 12, frame.bytes());
-    12 + frame.bytes().len() as u32
+    chain.write_at(ram, HEADER_LEN, frame.bytes());
+    HEADER_LEN as u32 + frame.bytes().len() as u32
 }
 
 /// Puts the first frame that waits into the next buffer. Answers whether that went well.

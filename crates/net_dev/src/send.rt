@@ -5,6 +5,7 @@ ghost use Rattle.dev_face.specs.States.{StaysInFront};
 ghost use Rattle.dev_face.specs.Queues.{put_with};
 ghost use Rattle.dev_face.specs.NetCalls.{frame_len, frames_of, bad_recs, send_one, send_all};
 
+use crate::header::HEADER_LEN;
 use dev_face::{break_down, put_back};
 use guest_ram::Ram;
 use split_queue::{Chain, SplitQueue, Took};
@@ -12,6 +13,12 @@ use std::alloc::Global;
 use tb_base::{Frame, ItemList, NoMemory};
 use trace_rec::{Log, Rec, What};
 use virtio_regs::Regs;
+
+/// How many bytes a frame has at least.
+const SHORTEST: u32 = 14;
+
+/// How many bytes a frame has at most.
+const LONGEST: u32 = 1514;
 
 /// The frame of a chain, behind its header.
 fn read_frame(alloc: Global, chain: &Chain, len: u32, ram: &Ram) -> Result<Frame, NoMemory>
@@ -24,7 +31,7 @@ fn read_frame(alloc: Global, chain: &Chain, len: u32, ram: &Ram) -> Result<Frame
         Ok(bytes) => bytes,
         Err(_) => return Err(NoMemory),
     };
-    chain.read_at(ram, 12, &mut bytes);
+    chain.read_at(ram, HEADER_LEN, &mut bytes);
     match Frame::new(alloc, &bytes) {
         Ok(frame) => Ok(frame),
         Err(_) => Err(NoMemory),
@@ -36,7 +43,7 @@ fn frame_len(chain: &Chain, ram: &Ram) -> u32
     requires { ChainIn ram.now chain.now }
     ensures { result ≡ frame_len chain.now }
 {
-    chain.read_len().saturating_sub(12) as u32
+    chain.read_len().saturating_sub(HEADER_LEN) as u32
 }
 
 /// Sends the frame of a chain, or says that its length is none of a frame.
@@ -56,7 +63,7 @@ fn send_frame(
     ensures front { StaysInFront log.old.items log.new.items }
 {
     let len = frame_len(chain, ram);
-    if 14 <= len && len <= 1514 {
+    if SHORTEST <= len && len <= LONGEST {
         let frame = read_frame(alloc, chain, len, ram)?;
         out.push(frame)
     } else {
