@@ -124,3 +124,10 @@ ended_is p e m n fs = refl
 pub order_none : (b m e : ℕ) (fs : List Leaving) → InOrder b m e fs → NoneBefore m fs
 order_none b m e [] o = All-nil (λ (x : Leaving). m ≤ x.leave)
 order_none b m e (f ∷ fs) o = All-cons (λ (x : Leaving). m ≤ x.leave) f fs o.0 (All-weaker (λ (x : Leaving). f.leave ≤ x.leave) (λ (x : Leaving). m ≤ x.leave) (λ x h. omega (arith, o.0)) fs (order_none b f.leave e fs o.2))
+
+-- none leaves before the first of them
+pub order_first : (b m e : ℕ) (fs : List Leaving) (f : Leaving) → InOrder b m e fs → Some f ≡ slice_get fs 0 → NoneBefore f.leave fs
+order_first b m e [] f o is = absurd cc
+order_first b m e (g ∷ gs) f o is =
+    let same : g ≡ f = cc in
+    subst (λ (x : Leaving). NoneBefore x.leave (g ∷ gs)) same (order_none b g.leave e (g ∷ gs) (omega arith, o.1, o.2))

@@ -68,6 +68,11 @@ leaving_in n fs = filter (λ (a : Leaving). nat_eq a.leave n) fs
 abbrev pub leaving_from : ℕ → List Leaving → List Leaving
 leaving_from n fs = filter (λ (a : Leaving). nat_le n a.leave) fs
 
+-- when the first of them leaves
+abbrev pub first_leave : List Leaving → Option ℕ
+first_leave [] = None
+first_leave (f ∷ fs) = Some f.leave
+
 -- what a pipe that was offered the list holds at tick n
 pub record PipeAt : Type 0 where
   pub last_end : ℕ

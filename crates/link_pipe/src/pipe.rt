@@ -1,7 +1,7 @@
 //! Pipes.
 ghost use Rattle.std.specs.Prelude.{◌≡◌, ℕ, ◌+◌, ◌≤◌, ◌<◌, ◌^◌, List, [], ◌∷◌, ◌++◌, length, map, IfOk, OnOk, OnErr, IfSome, IfNone, if◌then◌else◌};
 ghost use Rattle.circular_buffer.specs.Buffer.{buffer};
-ghost use Rattle.link_pipe.specs.Offers.{Offer, offer, fate, accepted, leaving_in};
+ghost use Rattle.link_pipe.specs.Offers.{Offer, offer, fate, accepted, leaving_in, leaving_from, first_leave};
 ghost use Rattle.link_pipe.specs.Piped.{StandsFor, InLimits, NoneBefore, is_full, offered, ended, front_in, rest_in, InOrder};
 ghost use Rattle.link_pipe.specs.Answers.{answer_of};
 
@@ -178,5 +178,15 @@ impl Pipe {
         self.give_up(now, out)?;
         self.hold();
         Ok(())
+    }
+
+    /// The tick in which the first held frame leaves, none where no frame is held. No held frame leaves before it.
+    pub fn next_leave(&self) -> Option<u64>
+        ensures first { result ≡ first_leave self.now.place.held }
+        ensures stands { (h : List Offer) (n : ℕ) → StandsFor self.now h n → result ≡ first_leave (leaving_from n (accepted self.now.params h)) }
+        ensures none_before { IfSome result (λ n. NoneBefore n self.now.place.held) }
+    {
+        let first = self.held.front()?;
+        Some(first.leave)
     }
 }

@@ -1,0 +1,5 @@
+pub mod Arriving
+pub mod Delivering
+pub mod Joining
+pub mod Sending
+pub mod Storing
