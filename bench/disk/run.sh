@@ -10,7 +10,7 @@ grep -E '^(tb_base|tb_text|byte_pages|guest_ram|csr_file|trace_rec|split_queue|v
 echo "bench_disk: tb_base guest_ram trace_rec dev_face disk_model blk_dev anyhow" >> "$work/crates.txt"
 mkdir -p "$work/crates/bench_disk/src" "$work/crates/bench_disk/proofs/"{tell,bring_up,run}
 cat > "$work/crates/bench_disk/src/main.rt" <<'PROGRAM'
-//! 50,000 ticks of eight requests of 4 KiB each.
+//! 400,000 requests of 4 KiB each, one of which completes in each tick.
 #![tactic(auto)]
 ghost use Rattle.std.specs.Prelude.{◌≡◌, ◌+◌, ◌≤◌, ◌^◌, [], length, OnOk, IfOk};
 ghost use Rattle.dev_face.specs.States.{IsComing};
@@ -35,7 +35,7 @@ const DATA: u32 = 0x8001_0000;
 const QUEUE: u32 = 32;
 const REQUESTS: u32 = 8;
 const BLOCK: u32 = 4096;
-const TURNS: u32 = 50_000;
+const TICKS: u32 = 400_000;
 
 fn put(ram: &mut Ram, addr: u32, word: u32)
     ensures { length ram.new ≡ length ram.old }
@@ -150,8 +150,10 @@ fn pass(
 {
     log.clear();
     disk.begin_tick(u64::from(now), ram, frames, log)?;
-    drive(ram, now);
-    tell(disk, now + 1, ram, 0x50, 0);
+    if now % REQUESTS == 0 {
+        drive(ram, now / REQUESTS);
+        tell(disk, now + 1, ram, 0x50, 0);
+    }
     disk.end_tick(u64::from(now), ram, frames, log)?;
     Ok(())
 }
@@ -173,11 +175,11 @@ fn run(alloc: Global, sectors: u32) -> Result<u32, NoMemory>
     let mut frames = ItemList::new(alloc);
     prepare(&mut ram);
     let mut disk = ready(alloc, sectors, &ram)?;
-    'turns: for now in 0..TURNS {
+    'turns: for now in 0..TICKS {
         pass(&mut disk, now, &mut ram, &mut frames, &mut log)?;
     }
-    // The requests of the last tick complete in the next one.
-    disk.begin_tick(u64::from(TURNS), &mut ram, &mut frames, &mut log)?;
+    // The last request completes behind the last tick.
+    disk.begin_tick(u64::from(TICKS), &mut ram, &mut frames, &mut log)?;
     Ok(sum_of(&ram))
 }
 

@@ -3,6 +3,6 @@
 /// A range of RAM.
 #[derive(Clone, Copy, Debug, Default)]
 pub struct Range {
-    pub addr: u64,
+    pub addr: u32,
     pub len: u32,
 }

@@ -40,7 +40,7 @@ fn stream_read(ram: &Ram, ranges: &[Range], pos: u64, to: &mut [u8])
             skip -= len;
         } else {
             let part = part_of(len, skip, to.len() - done);
-            ram.take((range.addr + skip) as u32, &mut to[done..done + part]);
+            ram.take(range.addr + skip as u32, &mut to[done..done + part]);
             done += part;
             skip = 0;
         }
@@ -62,7 +62,7 @@ fn stream_write(ram: &mut Ram, ranges: &[Range], pos: u64, from: &[u8])
             skip -= len;
         } else {
             let part = part_of(len, skip, from.len() - done);
-            ram.put((range.addr + skip) as u32, &from[done..done + part]);
+            ram.put(range.addr + skip as u32, &from[done..done + part]);
             done += part;
             skip = 0;
         }

@@ -1,5 +1,5 @@
 //! The walk along a chain.
-ghost use Rattle.std.specs.Prelude.{◌≡◌, ◌+◌, ◌*◌, ◌≤◌, ◌<◌, Bool, length, ◌||◌};
+ghost use Rattle.std.specs.Prelude.{◌≡◌, ◌+◌, ◌*◌, ◌^◌, ◌≤◌, ◌<◌, Bool, length, ◌||◌, IfNone};
 ghost use Rattle.split_queue.specs.Sizes.{InRam};
 ghost use Rattle.split_queue.specs.Chains.{chain_of};
 ghost use Rattle.split_queue.specs.Paths.{start, walked, fault_of};
@@ -16,7 +16,8 @@ use tb_base::Why;
 /// What is wrong with a descriptor that was not met before.
 #[tactic(auto, unfolding(crate::specs::Paths::fault_of))]
 fn fault_of(ram: &Ram, size: u16, after: bool, d: Descriptor) -> Option<Why>
-    ensures { result ≡ fault_of ram.now size after d }
+    ensures is { result ≡ fault_of ram.now size after d }
+    ensures small { IfNone result (d.addr < 2 ^ 32) }
 {
     if d.indirect {
         Some(Why::Indirect)
@@ -34,11 +35,12 @@ fn fault_of(ram: &Ram, size: u16, after: bool, d: Descriptor) -> Option<Why>
 /// The range of a descriptor joins its stream.
 #[tactic(auto, unfolding(crate::specs::Walks::added))]
 fn add(chain: &mut Chain, d: Descriptor)
-    requires { (length chain.old.readable < 64) × (length chain.old.writable < 64) }
+    requires small { d.addr < 2 ^ 32 }
+    requires room { (length chain.old.readable < 64) × (length chain.old.writable < 64) }
     ensures { chain.new ≡ added chain.old d }
 {
     let range = Range {
-        addr: d.addr,
+        addr: d.addr as u32,
         len: d.len,
     };
     if d.writable {

@@ -24,11 +24,11 @@ returns-then-met-place c =
 pub returns-in-Some : goal.returns-in-Some
 returns-in-Some c =
     let s : Start = start c.args.ram.now c.args.table c.args.size c.args.head in
-    let g : fault_of s.ram s.size c.steps.after (descriptor_at s.ram s.table c.steps.place) ≡ Some c.in-Some.why = ap (λ (d : Descriptor). fault_of s.ram s.size c.steps.after d) (sym c.descriptor_at-d.ensures) ∙ (sym c.fault_of.ensures ∙ c.in-Some.is) in
+    let g : fault_of s.ram s.size c.steps.after (descriptor_at s.ram s.table c.steps.place) ≡ Some c.in-Some.why = ap (λ (d : Descriptor). fault_of s.ram s.size c.steps.after d) (sym c.descriptor_at-d.ensures) ∙ (sym c.fault_of.ensures.is ∙ c.in-Some.is) in
     sym (along_fault s c.steps.steps c.steps.place c.steps.met c.steps.after c.steps.chain c.in-Some.why c.steps.invariant c.if-met-place.false g)
 
-pub add-requires : goal.add-requires
-add-requires c =
+pub add-requires-clause-room : goal.add-requires-clause-room
+add-requires-clause-room c =
     let s : Start = start c.args.ram.now c.args.table c.args.size c.args.head in
     let k = along_room s c.steps.steps c.steps.place c.steps.met c.steps.after c.steps.chain c.steps.invariant c.if-met-place.false in
     (omega (arith, c.steps.invariant.lengths), omega (arith, c.steps.invariant.lengths))
@@ -37,7 +37,7 @@ pub returns-then-not-d : goal.returns-then-not-d
 returns-then-not-d c =
     let s : Start = start c.args.ram.now c.args.table c.args.size c.args.head in
     let m = c.descriptor_at-d.ensures in
-    let g : fault_of s.ram s.size c.steps.after (descriptor_at s.ram s.table c.steps.place) ≡ None = ap (λ (d : Descriptor). fault_of s.ram s.size c.steps.after d) (sym m) ∙ (sym c.fault_of.ensures ∙ c.in-None.is) in
+    let g : fault_of s.ram s.size c.steps.after (descriptor_at s.ram s.table c.steps.place) ≡ None = ap (λ (d : Descriptor). fault_of s.ram s.size c.steps.after d) (sym m) ∙ (sym c.fault_of.ensures.is ∙ c.in-None.is) in
     let o : (descriptor_at s.ram s.table c.steps.place).goes_on ≡ false = ap (λ (d : Descriptor). d.goes_on) (sym m) ∙ not-true _ c.if-not-d.true in
     ap Ok (c.add.ensures ∙ ap (added c.steps.chain) m) ∙ sym (along_end s c.steps.steps c.steps.place c.steps.met c.steps.after c.steps.chain c.steps.invariant c.if-met-place.false g o)
 
@@ -54,7 +54,7 @@ steps-preserved c =
     let d : Descriptor = c.descriptor_at-d.result in
     let n : ℕ = c.steps.steps + 1 in
     let met : List Bool = set c.steps.met c.steps.place true in
-    let g : fault_of s.ram s.size c.steps.after (descriptor_at s.ram s.table c.steps.place) ≡ None = ap (λ (x : Descriptor). fault_of s.ram s.size c.steps.after x) (sym m) ∙ (sym c.fault_of.ensures ∙ c.in-None.is) in
+    let g : fault_of s.ram s.size c.steps.after (descriptor_at s.ram s.table c.steps.place) ≡ None = ap (λ (x : Descriptor). fault_of s.ram s.size c.steps.after x) (sym m) ∙ (sym c.fault_of.ensures.is ∙ c.in-None.is) in
     let o : (descriptor_at s.ram s.table c.steps.place).goes_on ≡ true = ap (λ (x : Descriptor). x.goes_on) (sym m) ∙ not-false _ c.if-not-d.false in
     let a = along_next s c.steps.steps c.steps.place c.steps.met c.steps.after c.steps.chain c.steps.invariant c.if-met-place.false g o in
     let b = subst (λ (x : Descriptor). Along s n x.next met (c.steps.after || x.writable) (added c.steps.chain x)) (sym m) a in
