@@ -6,6 +6,7 @@ ghost use Rattle.csr_file.specs.declared.lines.Lines.{Lines};
 ghost use Rattle.guest_ram.specs.Bytes.{ram_load, place_of, at_place, bytes_after};
 ghost use Rattle.tb_base.specs.declared.width.Width.TheVariants.{Word};
 
+use crate::cases::running::put_words;
 use csr_file::{CsrFile, Lines};
 use guest_ram::{MemFault, Ram};
 use rv_exec::{Bus, Hart, Stepped};
@@ -67,18 +68,6 @@ fn bus_with(ram: Ram) -> RamBus {
         lines: NONE,
         stopped: false,
     }
-}
-
-/// Puts words into RAM, from an address on.
-fn put_words(ram: &mut Ram, at: u32, words: &[u32]) -> bool {
-    let mut addr = at;
-    for word in words {
-        if ram.store(addr, Width::Word, *word).is_err() {
-            return false;
-        }
-        addr = addr.wrapping_add(4);
-    }
-    true
 }
 
 /// Whether a hart retires so many instructions, one a step.

@@ -1,6 +1,6 @@
 use Rattle.std.proofs.Common.{◌≡◌}
 use Rattle.lookahead_core.specs.Motion.{Running}
-use Rattle.machine_cases.proofs.machine.make_tick.Given as goal
+use Rattle.machine_cases.proofs.cases.running.make_tick.Given as goal
 
 -- so many steps of the tick were made
 abbrev pub invariant-loop-step : goal.invariant-loop-step

@@ -1,5 +1,5 @@
 use Rattle.std.proofs.Common.{◌∙◌}
-use Rattle.machine_cases.proofs.machine.make_tick.Goals as goal
+use Rattle.machine_cases.proofs.cases.running.make_tick.Goals as goal
 
 pub loop-step-preserved : goal.loop-step-preserved
 loop-step-preserved g c =
