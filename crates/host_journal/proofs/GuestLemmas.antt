@@ -1,5 +1,5 @@
 -- Texts of guests one behind another, and the records of a guest that entries give.
-use Rattle.std.proofs.Common.{◌≡◌, ◌∙◌, ℕ, zero, suc, ◌+◌, ◌<◌, ◌≤◌, List, [], ◌∷◌, ◌++◌, Option, Bool, true, false, refl, sym, ap, ap₂, subst, arith, length, take, get_or, append_assoc, add-one, inl, inr}
+use Rattle.std.proofs.Common.{◌≡◌, ◌∙◌, ℕ, zero, suc, ◌+◌, ◌<◌, ◌≤◌, List, [], ◌∷◌, ◌++◌, Option, Bool, true, false, refl, sym, ap, subst, arith, length, take, get_or, append_assoc, add-one, inl, inr}
 use Rattle.std.proofs.lemmas.Bool.{cases_lt, cond-true, cond-false, eq-eqb, ne_eqb}
 use Rattle.std.proofs.lemmas.List.{append-nil, take_more, get_or_default}
 use Rattle.std.proofs.lemmas.List.Elements.{filter-append}

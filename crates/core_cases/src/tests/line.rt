@@ -13,10 +13,8 @@ fn send(alloc: Global, line: &mut Line, leave: u64, byte: u8) -> Result<(), Fail
     ensures { OnOk result (last_leave line.new.frames ≡ leave) }
 {
     let frame = Frame::new(alloc, &[byte; 14])?;
-    match line.send(leave, frame) {
-        Ok(()) => Ok(()),
-        Err(_) => Err(Fail::new("memory")),
-    }
+    line.send(leave, frame)?;
+    Ok(())
 }
 
 /// The first byte of the next frame that arrives, if that is in this tick.

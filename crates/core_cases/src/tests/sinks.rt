@@ -1,7 +1,8 @@
 //! What the files and sinks answer, and what they leave.
+use std::alloc::Global;
 use std::io;
 use std::test::Fail;
-use tb_io::{Files, HostFiles, HostSink, MemFiles, MemSink, ReadErr, Sink};
+use tb_io::{Files, HostFiles, HostSink, MemFiles, MemSink, PutErr, ReadErr, Sink};
 
 /// A writer that takes two bytes a write at most, and is full after five.
 #[derive(Drop)]
@@ -31,6 +32,17 @@ impl io::Write for Narrow {
     }
 }
 
+/// Whether a read of a file, of at most so many bytes, gives these.
+fn reads<F: Files>(
+    files: &mut F,
+    alloc: Global,
+    name: &str,
+    limit: usize,
+    wanted: &[u8],
+) -> Result<bool, ReadErr> {
+    Ok(files.read(alloc, name, limit)?.as_slice() == wanted)
+}
+
 #[test]
 fn files_and_sinks_in_memory(rt: HostRuntime) -> Result<(), Fail> {
     let alloc = rt.alloc();
@@ -38,13 +50,14 @@ fn files_and_sinks_in_memory(rt: HostRuntime) -> Result<(), Fail> {
     files.add("a", b"old bytes")?;
     files.add("a", b"new")?;
     files.fail_read(2)?;
+    let first = reads(&mut files, alloc, "a", 3, b"new");
+    let second = reads(&mut files, alloc, "a", 3, b"new");
+    assert_eq!(rt; (first, second), (Ok(true), Err(ReadErr::Failed)));
     let mut sink = MemSink::new(alloc, 5)?;
     sink.fail_put(2, 1)?;
-    assert!(rt; files.read(alloc, "a", 3)?.as_slice() == b"new".as_slice());
-    assert!(rt; files.read(alloc, "a", 3).err() == Some(ReadErr::Failed));
-    assert!(rt; sink.put(b"abc").is_ok());
-    assert!(rt; sink.put(b"def").is_err());
-    assert!(rt; sink.bytes() == b"abcd".as_slice());
+    let told = (sink.put(b"abc"), sink.put(b"def"));
+    assert_eq!(rt; told, (Ok(()), Err(PutErr::Failed)));
+    assert_eq!(rt; sink.bytes(), b"abcd".as_slice());
     Ok(())
 }
 
@@ -53,16 +66,15 @@ fn files_and_sinks_in_memory(rt: HostRuntime) -> Result<(), Fail> {
 fn a_file_of_the_host_is_read_to_its_end(rt: HostRuntime) -> Result<(), Fail> {
     let path = "tb_io-host_files-test";
     let alloc = rt.alloc();
-    let wanted = vec![in alloc; 7u8; 5000]?;
+    let wanted = [7; 5000];
     let mut files = HostFiles::new(alloc, rt.clone()?);
-    std::fs::write(&rt, path, wanted.as_slice())?;
-    let just = files.read(alloc, path, 5000);
-    let long = files.read(alloc, path, 4999);
+    std::fs::write(&rt, path, &wanted)?;
+    let just = reads(&mut files, alloc, path, 5000, &wanted);
+    let long = reads(&mut files, alloc, path, 4999, &wanted);
     std::fs::remove_file(&rt, path)?;
-    let missing = files.read(alloc, path, 5000);
-    assert!(rt; just?.as_slice() == wanted.as_slice());
-    assert!(rt; long.err() == Some(ReadErr::TooLong));
-    assert!(rt; missing.err() == Some(ReadErr::Failed));
+    let missing = reads(&mut files, alloc, path, 5000, &wanted);
+    assert_eq!(rt; (just, long), (Ok(true), Err(ReadErr::TooLong)));
+    assert_eq!(rt; missing, Err(ReadErr::Failed));
     Ok(())
 }
 
@@ -72,10 +84,10 @@ fn a_sink_of_the_host_writes_on(rt: HostRuntime) -> Result<(), Fail> {
         bytes: Vec::new(rt.alloc()),
     };
     let mut sink = HostSink::new(&mut writer);
-    assert!(rt; sink.put(b"abc").is_ok());
-    assert!(rt; sink.flush().is_ok());
-    assert!(rt; sink.put(b"def").is_err());
-    assert!(rt; sink.flush().is_err());
-    assert!(rt; writer.bytes.as_slice() == b"abcde".as_slice());
+    let first = (sink.put(b"abc"), sink.flush());
+    let second = (sink.put(b"def"), sink.flush());
+    assert_eq!(rt; first, (Ok(()), Ok(())));
+    assert_eq!(rt; second, (Err(PutErr::Failed), Err(PutErr::Failed)));
+    assert_eq!(rt; writer.bytes.as_slice(), b"abcde".as_slice());
     Ok(())
 }

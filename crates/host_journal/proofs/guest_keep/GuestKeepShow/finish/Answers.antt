@@ -1,7 +1,6 @@
 -- What was gathered is put.
-use Rattle.std.proofs.Common.{ℕ, List, sym, subst}
+use Rattle.std.proofs.Common.{sym, subst}
 use Rattle.std.proofs.lemmas.Result.{on_ok_weaker}
-use Rattle.trace_rec.specs.declared.rec.Rec.{Rec}
 use Rattle.host_journal.specs.Guests.{ticks_shown, recs_below}
 use Rattle.host_journal.specs.Holding.{Holds}
 use Rattle.host_journal.proofs.HeldLemmas.{text_whole, text_part}

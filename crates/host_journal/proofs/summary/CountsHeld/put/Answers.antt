@@ -1,4 +1,4 @@
-use Rattle.std.proofs.Common.{rules, ap, subst}
+use Rattle.std.proofs.Common.{rules, subst}
 use Rattle.host_journal.specs.Standing.{Adds}
 use Rattle.host_journal.specs.Tallies.{summary_line}
 use Rattle.host_journal.specs.declared.counts.Counts.{Counts}

@@ -1,4 +1,4 @@
-use Rattle.std.proofs.Common.{rules, ◌∙◌, List, ap, subst}
+use Rattle.std.proofs.Common.{rules, ◌∙◌, List, subst}
 use Rattle.trace_rec.specs.declared.rec.Rec.{Rec}
 use Rattle.host_journal.specs.Standing.{Adds}
 use Rattle.host_journal.specs.Traces.{guest_line, guest_trace, trace_lines}

@@ -1,4 +1,4 @@
-use Rattle.std.proofs.Common.{◌-◌, refl, ap, arith}
+use Rattle.std.proofs.Common.{◌≡◌, ◌-◌, refl, ap, arith}
 use Rattle.core_cases.proofs.Still.{stays}
 use Rattle.core_cases.proofs.tests.steady.SteadyNode.skip_to.Goals as goal
 
