@@ -1,6 +1,6 @@
 -- Finish ticks never fall along the requests in flight.
-use Rattle.std.proofs.Common.{◌≡◌, ℕ, zero, suc, ◌+◌, ◌-◌, ◌*◌, ◌/◌, ◌<◌, ◌≤◌, ◌^◌, ◌&&◌, Bool, true, false, cond, nat_le, Option, Some, None, List, [], ◌∷◌, ◌++◌, length, map, refl, sym, subst, arith}
-use Rattle.std.specs.Prelude.{All, AllPairs, Contains}
+use Rattle.std.proofs.Common.{◌≡◌, ℕ, zero, suc, ◌+◌, ◌-◌, ◌/◌, ◌≤◌, ◌^◌, ◌&&◌, Bool, true, false, cond, nat_le, Option, Some, None, List, [], ◌∷◌, ◌++◌, refl, sym, subst, arith}
+use Rattle.std.specs.Prelude.{All, AllPairs}
 use Rattle.std.proofs.lemmas.List.Elements.{All-nil, All-cons, All-head, All-tail, All-push, All-weaker}
 use Rattle.tb_base.specs.declared.width.Width.{Width}
 use Rattle.split_queue.specs.Chains.{ChainOf}
@@ -17,7 +17,7 @@ use Rattle.virtio_regs.specs.Stores.{reg_store}
 use Rattle.dev_face.specs.Queues.{is_refused}
 use Rattle.dev_face.specs.BlkStates.{FlightState, ActiveState, BlkState, opening_disk}
 use Rattle.dev_face.specs.BlkRequests.{header, kind_in, sector_in, data_len, is_well_formed, is_short}
-use Rattle.dev_face.specs.BlkCalls.{Work, Served, served, completed, done_rec, with_rec, activated, blk_after, blk_store, begin_active, blk_begin, work_of, Intake, TakenOne, Taken, take_one, take_all, goes_on_with, on_took, admitted_as, flight_of, BlkEnded, after_taken, end_active, blk_end, intake_of, blk_next, first_finish}
+use Rattle.dev_face.specs.BlkCalls.{Work, Served, served, completed, done_rec, with_rec, activated, blk_after, blk_store, begin_active, blk_begin, work_of, Intake, TakenOne, Taken, take_one, take_all, on_took, admitted_as, flight_of, BlkEnded, after_taken, end_active, blk_end, intake_of, blk_next, first_finish}
 use Rattle.blk_dev.specs.Order.{in_flight, FinishInOrder, IsOrdered, IsLeastFinish}
 
 abbrev pub finish : FlightState → ℕ
@@ -144,10 +144,10 @@ module _ (rises : Rises) (bounded : Bounded) where
   as_bounded s now sector len false = bounded s now s.place.head 0
 
   takes : (x : Intake) (now sector len : ℕ) (good : Bool) (c : ChainOf) (kind : ℕ) → Good x →
-    FinishInOrder (admitted_as x.server now sector len good) (x.flying ++ flight_of c kind sector (admitted_as x.server now sector len good) ∷ [])
+      FinishInOrder (admitted_as x.server now sector len good) (x.flying ++ flight_of c kind sector (admitted_as x.server now sector len good) ∷ [])
   takes x now sector len good c kind h =
-    one_more x.server (admitted_as x.server now sector len good) x.flying (flight_of c kind sector (admitted_as x.server now sector len good)) h
-    (as_rises x.server now sector len good h.range) (as_bounded x.server now sector len good) refl
+      one_more x.server (admitted_as x.server now sector len good) x.flying (flight_of c kind sector (admitted_as x.server now sector len good)) h
+      (as_rises x.server now sector len good h.range) (as_bounded x.server now sector len good) refl
 
   intake_of_either : (b : Bool) (x y : TakenOne) → Good x.intake → Good y.intake → Good (cond b x y).intake
   intake_of_either true x y h k = h
@@ -157,8 +157,8 @@ module _ (rises : Rises) (bounded : Bounded) where
   on_took_good now slot sectors ram x Empty h = h
   on_took_good now slot sectors ram x (Broken why) h = none_flies x.server h.range
   on_took_good now slot sectors ram x (Chain c) h =
-    intake_of_either (is_short c) _ _ (none_flies x.server h.range)
-    (takes x now (sector_in (header ram c)) (data_len (kind_in (header ram c)) c) (is_well_formed sectors (kind_in (header ram c)) (sector_in (header ram c)) (data_len (kind_in (header ram c)) c)) c (kind_in (header ram c)) h)
+      intake_of_either (is_short c) _ _ (none_flies x.server h.range)
+      (takes x now (sector_in (header ram c)) (data_len (kind_in (header ram c)) c) (is_well_formed sectors (kind_in (header ram c)) (sector_in (header ram c)) (data_len (kind_in (header ram c)) c)) c (kind_in (header ram c)) h)
 
   take_one_good : (now slot sectors : ℕ) (ram : List ℕ) (x : Intake) → Good x → Good (take_one now slot sectors ram x).intake
   unfolding take_one
@@ -172,8 +172,8 @@ module _ (rises : Rises) (bounded : Bounded) where
   unfolding take_all
   take_all_good now slot sectors ram zero x h = h
   take_all_good now slot sectors ram (suc k) x h =
-    let one = take_one_good now slot sectors ram x h in
-    taken_of_either (take_one now slot sectors ram x).goes_on _ _ (take_all_good now slot sectors ram k (take_one now slot sectors ram x).intake one) one
+      let one = take_one_good now slot sectors ram x h in
+      taken_of_either (take_one now slot sectors ram x).goes_on _ _ (take_all_good now slot sectors ram k (take_one now slot sectors ram x).intake one) one
 
   ended_either : (b : Bool) (x y : BlkEnded) → IsOrdered x.disk → IsOrdered y.disk → IsOrdered (cond b x y).disk
   ended_either true x y h k = h
@@ -182,8 +182,8 @@ module _ (rises : Rises) (bounded : Bounded) where
   ended_ordered : (s : BlkState) (now : ℕ) (ram : List ℕ) (o : Option ActiveState) → IsOrdered s → FinishInOrder s.server (in_flight o) → IsOrdered (end_active s now ram o).disk
   ended_ordered s now ram None h k = h
   ended_ordered s now ram (Some a) h k =
-    let t : Taken = take_all now s.slot s.sectors ram 65536 (intake_of s a) in
-    ended_either (is_live s.regs && s.notified) (after_taken s t) (record { disk = s; recs = [] }) (take_all_good now s.slot s.sectors ram 65536 (intake_of s a) k) h
+      let t : Taken = take_all now s.slot s.sectors ram 65536 (intake_of s a) in
+      ended_either (is_live s.regs && s.notified) (after_taken s t) (record { disk = s; recs = [] }) (take_all_good now s.slot s.sectors ram 65536 (intake_of s a) k) h
 
   pub end_ordered : (s : BlkState) (now : ℕ) (ram : List ℕ) → IsOrdered s → IsOrdered (blk_end s now ram).disk
   end_ordered s now ram h = ended_ordered s now ram s.active h h

@@ -2,9 +2,9 @@
 ghost use Rattle.std.specs.Prelude.{◌≡◌, ℕ, List, filter, map, fold};
 ghost use Rattle.tb_base.specs.declared.width.Width.{Width};
 ghost use Rattle.disk_model.specs.declared.disk_params.DiskParams.{DiskParams};
-ghost use Rattle.dev_face.specs.BlkStates.{FlightState, BlkState, opening_disk};
+ghost use Rattle.dev_face.specs.BlkStates.{BlkState, opening_disk};
 ghost use Rattle.dev_face.specs.BlkCalls.{Work, served, completed, done_rec, blk_store, blk_begin, blk_end, blk_next};
-ghost use Rattle.blk_dev.specs.Order.{IsOrdered, FinishInOrder, IsLeastFinish, in_flight, is_due, is_later};
+ghost use Rattle.blk_dev.specs.Order.{IsOrdered, IsLeastFinish, in_flight, is_due, is_later};
 
 use disk_model::finish_ticks_never_fall;
 
