@@ -66,7 +66,7 @@ module _ (old new : FilesSeen) (e : Experiment) (slots : List ℕ) (first : Buil
   image_taken last same answer building =
       let more = taken_too e.guests.items i g guests all lt at_i (IsLoaded old.held) k.inputs.images b k.loaded.images (record { read = read; taken = image_at (Ok tt) answer }) in
       subst (λ (f : FilesSeen). HasTaken f (take (i + 1) e.guests.items) [] e slots last) (sym same)
-      (record { inputs = with_image k.inputs b; loaded = record { images = more; disks = k.loaded.disks }; building = building })
+      (record { inputs = with_image k.inputs b; loaded = record { images = more; contents = k.loaded.contents }; building = building })
 
 -- d is the j-th disk, and all images and the disks before it were taken
 module _ (old new : FilesSeen) (e : Experiment) (slots : List ℕ) (first : Builder) (j : ℕ) (d : DiskSpec) (disks : List DiskSpec) (all : disks ≡ e.disks.items) (lt : j < length e.disks.items)
@@ -86,6 +86,6 @@ module _ (old new : FilesSeen) (e : Experiment) (slots : List ℕ) (first : Buil
   pub disk_taken : (last : Builder) → new ≡ old → (slice_get e.disks.items (length k.inputs.disks) ≡ Some d → Fills d b)
       → IsBuilding e slots (with_disk k.inputs b) last → HasTaken new e.guests.items (take (j + 1) e.disks.items) e slots last
   disk_taken last same answer building =
-      let more = taken_too e.disks.items j d disks all lt at_j (IsFilled old.held) k.inputs.disks b k.loaded.disks (record { read = read; fills = disk_at (Ok tt) answer }) in
+      let more = taken_too e.disks.items j d disks all lt at_j (IsFilled old.held) k.inputs.disks b k.loaded.contents (record { read = read; fills = disk_at (Ok tt) answer }) in
       subst (λ (f : FilesSeen). HasTaken f e.guests.items (take (j + 1) e.disks.items) e slots last) (sym same)
-      (record { inputs = with_disk k.inputs b; loaded = record { images = k.loaded.images; disks = more }; building = building })
+      (record { inputs = with_disk k.inputs b; loaded = record { images = k.loaded.images; contents = more }; building = building })
