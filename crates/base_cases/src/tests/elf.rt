@@ -12,11 +12,14 @@ const HAND_MADE: &[u8; 120] =
     \x01\0\0\0\x74\0\0\0\0\0\0\0\0\0\0\x80\x04\0\0\0\0\x10\0\0\0\0\0\0\0\0\0\0\x6f\0\0\0";
 
 fn wanted(len: usize) -> Result<u32, ElfFault> {
-    match len {
-        0..=3 => Err(ElfFault::NotElf),
-        4..=115 => Err(ElfFault::Truncated),
-        116..=119 => Err(ElfFault::BadSegment(1)),
-        _ => Ok(0x8000_0000),
+    if len < 4 {
+        Err(ElfFault::NotElf)
+    } else if len < 116 {
+        Err(ElfFault::Truncated)
+    } else if len < 120 {
+        Err(ElfFault::BadSegment(1))
+    } else {
+        Ok(0x8000_0000)
     }
 }
 
@@ -39,25 +42,35 @@ fn loads_the_file_and_refuses_its_prefixes(rt: HostRuntime) {
     }
 }
 
+/// Where a byte of the file is another one, which, and the fault then.
+const BROKEN: [(usize, u8, ElfFault); 9] = [
+    (4, 2, ElfFault::WrongKind),
+    (18, 0xf4, ElfFault::WrongKind),
+    (42, 0x21, ElfFault::WrongKind),
+    (24, 2, ElfFault::BadEntry),
+    (27, 0x7f, ElfFault::BadEntry),
+    (88, 0x75, ElfFault::BadSegment(1)),
+    (105, 0, ElfFault::BadSegment(1)),
+    (104, 4, ElfFault::OutsideRam(1)),
+    (99, 0x7f, ElfFault::OutsideRam(1)),
+];
+
+/// What is answered of the file with another byte.
+fn with_byte(ram: &mut Ram, at: usize, byte: u8) -> Result<u32, ElfFault> {
+    let mut file = *HAND_MADE;
+    if let Some(there) = file.get_mut(at) {
+        *there = byte;
+    }
+    load_elf(&file, ram)
+}
+
 #[test]
 fn tells_what_a_byte_breaks(rt: HostRuntime) {
     let Ok(mut ram) = Ram::new(rt.alloc(), 4096) else {
         panic!(rt; "no memory");
     };
-    for (at, byte, fault) in [
-        (4, 2, ElfFault::WrongKind),
-        (18, 0xf4, ElfFault::WrongKind),
-        (42, 0x21, ElfFault::WrongKind),
-        (24, 2, ElfFault::BadEntry),
-        (27, 0x7f, ElfFault::BadEntry),
-        (88, 0x75, ElfFault::BadSegment(1)),
-        (105, 0, ElfFault::BadSegment(1)),
-        (104, 4, ElfFault::OutsideRam(1)),
-        (99, 0x7f, ElfFault::OutsideRam(1)),
-    ] {
-        let mut file = *HAND_MADE;
-        file[at] = byte;
-        assert!(rt; load_elf(&file, &mut ram) == Err(fault), "at {at}");
+    for (at, byte, fault) in BROKEN {
+        assert!(rt; with_byte(&mut ram, at, byte) == Err(fault), "at {at}");
     }
     assert!(rt; ram.load(0x8000_0000, Width::Word) == Ok(0));
 }

@@ -1,13 +1,15 @@
 //! Plans of small experiments.
-use exp_file::read_experiment;
-use host_plan::{Least, Overload, check, least_factor, place, slot_need};
+ghost use Rattle.exp_file.specs.WellFormed.{IsWellFormed};
+ghost use Rattle.host_plan.specs.Fits.{IsPlacement};
+
+use exp_file::{Experiment, read_experiment};
+use host_plan::{Least, Overload, Placement, check, least_factor, place, slot_need};
 use plan_text::put_plan;
 use std::alloc::Global;
-use std::test::Fail;
 use tb_io::{MemSink, WriteErr};
 
 /// An experiment, the homes of its guests, what the first slot needs, the answer of the check, the
-/// least factor, and the text of the plan.
+/// least factor, the text of the plan, and what is taken of it where its second put fails after four bytes.
 #[derive(Drop)]
 struct Case {
     experiment: &'static str,
@@ -16,6 +18,7 @@ struct Case {
     fit: Result<(), Overload>,
     least: Least,
     plan: &'static str,
+    cut: &'static str,
 }
 
 const CASES: [Case; 5] = [
@@ -43,6 +46,7 @@ guest 1 b slot 1 rate 5\n\
 guest 2 c slot 1 rate 4\n\
 least 2 slot 1\n\
 over 1 need 9 have 8\n",
+        cut: "plan factor 1 slots 2 guests 3\nslot",
     },
     Case {
         experiment: "version = 1\n\
@@ -63,6 +67,7 @@ slot 0 need 3 have 2\n\
 guest 0 a slot 0 rate 3\n\
 least 3 slot 0\n\
 over 0 need 3 have 2\n",
+        cut: "plan factor 2 slots 1 guests 1\nslot",
     },
     Case {
         experiment: "version = 1\n\
@@ -83,6 +88,7 @@ guest 1 b slot 0 rate 3\n\
 guest 2 c slot 0 rate 2\n\
 least 2 slot 0\n\
 fits\n",
+        cut: "plan factor 2 slots 1 guests 3\nslot",
     },
     Case {
         experiment: "version = 1\n\
@@ -104,6 +110,7 @@ guest 1 b slot 1 rate 2\n\
 guest 2 c slot 0 rate 1\n\
 least 1 slot 0\n\
 fits\n",
+        cut: "plan factor 1 slots 2 guests 3\nslot",
     },
     Case {
         experiment: "version = 1\n\
@@ -144,8 +151,29 @@ guest 10 cli6 slot 2 rate 1000\n\
 guest 11 cli7 slot 2 rate 1000\n\
 least 4 slot 0\n\
 fits\n",
+        cut: "plan factor 4 slots 3 guests 12\nslot",
     },
 ];
+
+/// Whether the plan is put with this answer, and this text of it taken, where a put fails after four bytes, if there are so many.
+fn is_put(
+    alloc: Global,
+    e: &Experiment,
+    p: &Placement,
+    put: u64,
+    answer: Result<(), WriteErr>,
+    text: &str,
+) -> bool
+    requires well_formed { IsWellFormed e.now }
+    requires placement { IsPlacement e.now p.now.slots.items }
+{
+    let Ok(mut out) = MemSink::new(alloc, 1000) else {
+        return false;
+    };
+    out.fail_put(put, 4).is_ok()
+        && put_plan(alloc, e, p, &mut out) == answer
+        && out.bytes() == text.as_bytes()
+}
 
 fn is_planned(alloc: Global, case: &Case) -> bool {
     let Ok(e) = read_experiment(alloc, case.experiment.as_bytes()) else {
@@ -158,6 +186,8 @@ fn is_planned(alloc: Global, case: &Case) -> bool {
         && slot_need(&e, &p, 0) == case.need
         && check(&e, &p) == case.fit
         && least_factor(&e, &p) == case.least
+        && is_put(alloc, &e, &p, 0, Ok(()), case.plan)
+        && is_put(alloc, &e, &p, 2, Err(WriteErr::Failed), case.cut)
 }
 
 #[test]
@@ -166,39 +196,4 @@ fn plans_small_experiments(rt: HostRuntime) {
         let planned = is_planned(rt.alloc(), &CASES[i]);
         assert!(rt; planned, "at {i}");
     }
-}
-
-/// Puts the plan of an experiment.
-fn put(alloc: Global, experiment: &str, out: &mut MemSink) -> Result<(), WriteErr> {
-    let Ok(e) = read_experiment(alloc, experiment.as_bytes()) else {
-        return Err(WriteErr::NoMemory);
-    };
-    let Ok(p) = place(alloc, &e) else {
-        return Err(WriteErr::NoMemory);
-    };
-    put_plan(alloc, &e, &p, out)
-}
-
-#[test]
-fn puts_whole_plans(rt: HostRuntime) -> Result<(), Fail> {
-    for i in 0..CASES.len() {
-        let mut out = MemSink::new(rt.alloc(), 1000)?;
-        let answer = put(rt.alloc(), CASES[i].experiment, &mut out);
-        assert_eq!(rt; answer, Ok(()));
-        assert!(rt; out.bytes() == CASES[i].plan.as_bytes(), "at {i}");
-    }
-    Ok(())
-}
-
-#[test]
-fn a_failed_put_ends_a_plan(rt: HostRuntime) -> Result<(), Fail> {
-    let mut out = MemSink::new(rt.alloc(), 1000)?;
-    out.fail_put(2, 4)?;
-    let answer = put(rt.alloc(), CASES[2].experiment, &mut out);
-    assert_eq!(rt; answer, Err(WriteErr::Failed));
-    assert_eq!(rt;
-        out.bytes(),
-        b"plan factor 2 slots 1 guests 3\nslot".as_slice()
-    );
-    Ok(())
 }
