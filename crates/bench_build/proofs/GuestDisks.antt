@@ -226,6 +226,11 @@ lists_push vs w ds bs d b g lt long put is =
 pub disks_held : {Z : Type 0} (vs : List (Vec DevConfig Z)) (held : Vec DevConfig Z) (i : ℕ) → held ≡ get_or vs i held → i < length vs → disks_at vs i ≡ held.items
 disks_held vs held i is lt = get_or-map (λ x. x.items) vs i held [] lt ∙ ap (λ v. v.items) (sym is)
 
+-- the disks of the guest whose turn it is
+pub disks_turn : {Z : Type 0} (vs : List (Vec DevConfig Z)) (held : Vec DevConfig Z) (i n : ℕ) (ds : List DevConfig) → held ≡ get_or vs i held → i ≡ n → i < length vs → ds ≡ held.items
+    → disks_at vs n ≡ ds
+disks_turn vs held i n ds is e lt same = ap (disks_at vs) (sym e) ∙ disks_held vs held i is lt ∙ sym same
+
 -- it is not longer than the list of all disks
 pub held_few : {Z : Type 0} (vs : List (Vec DevConfig Z)) (held : Vec DevConfig Z) (i : ℕ) (ds : List DiskSpec) (bs : List (List ℕ))
     → held ≡ get_or vs i held → i < length vs → disks_at vs i ≡ disk_configs i 0 ds bs → length held.items ≤ length ds
