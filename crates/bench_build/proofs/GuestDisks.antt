@@ -3,9 +3,9 @@ use Rattle.std.proofs.Common.{◌≡◌, ◌==◌, ℕ, zero, suc, ◌+◌, ◌<
 use Rattle.std.specs.Prelude.{slice_get}
 use Rattle.std.proofs.lemmas.Bool.{cases_eq, eq-eqb, ne_eqb}
 use Rattle.std.specs.declared.vec.Vec.{Vec}
-use Rattle.std.proofs.lemmas.List.{append-nil, get_or-set_same, get_or-set_other, map-set, length-map}
+use Rattle.std.proofs.lemmas.List.{append-nil, get_or-map, get_or-set_same, get_or-set_other, map-set, length-map}
 use Rattle.std.proofs.lemmas.List.Elements.{All-nil, All-cons, All-head, All-tail}
-use Rattle.std.proofs.lemmas.List.Sums.{sum_by-cons}
+use Rattle.std.proofs.lemmas.List.Sums.{sum_by-cons, count_by-le-length}
 use Rattle.dev_face.specs.States.{IsInLimits, config_kind}
 use Rattle.dev_face.specs.declared.config.DevConfig.{DevConfig}
 use Rattle.dev_face.specs.declared.kind.Kind.{Kind}
@@ -74,7 +74,7 @@ blks g n (d ∷ ds) (b ∷ bs) =
 -- a disk of an experiment can be set up with what it has room for
 disk_limits : (guests n : ℕ) (d : DiskSpec) (b : List ℕ) → IsDisk guests d → Fills d b → n < 2 → IsInLimits (disk_config d b n)
 disk_limits guests n d b is fills few =
-    (is.sectors_low, (is.sectors_high, ((is.base_low, (is.base_high, (is.seek_num, (is.seek_den_low, (is.seek_den_high, is.per_sector))))), (fills, (few, omega (arith, few))))))
+    (is.sectors_low, is.sectors_high, (is.base_low, is.base_high, is.seek_num, is.seek_den_low, is.seek_den_high, is.per_sector), fills, few, omega (arith, few))
 
 limits : (guests g n : ℕ) (ds : List DiskSpec) (bs : List (List ℕ)) → All (IsDisk guests) ds →
     ((j : ℕ) (d : DiskSpec) (b : List ℕ) → slice_get ds j ≡ Some d → slice_get bs j ≡ Some b → Fills d b) → n + disks_of g ds ≤ 2 → All IsInLimits (disk_configs g n ds bs)
@@ -95,7 +95,7 @@ pub are_disks : (guests g : ℕ) (ds : List DiskSpec) (bs : List (List ℕ)) →
 are_disks guests g ds bs all fills few = record {
   few = omega (arith, few, disks_length g 0 ds bs);
   kinds = blks g 0 ds bs;
-  limits = limits guests g 0 ds bs all fills few;
+  limits = limits guests g 0 ds bs all fills (omega (arith, few));
 }
 
 -- disks take devices of their kind alone, one each
@@ -104,7 +104,7 @@ none_for k other [] is = refl
 none_for k other (c ∷ cs) is =
     let first : config_kind c ≡ kind.Blk = cc in
     let rest : map config_kind cs ≡ replicate (length cs) kind.Blk = cc in
-    let none : cond (rank (config_kind c) == rank k) 1 0 ≡ 0 = ap (λ j. cond (rank j == rank k) 1 0) first ∙ ap (λ t. cond t 1 0) other in
+    let none : 0 + cond (rank (config_kind c) == rank k) 1 0 ≡ 0 = ap (λ j. 0 + cond (rank j == rank k) 1 0) first ∙ ap (λ t. 0 + cond t 1 0) other in
     omega (arith, none, none_for k other cs rest)
 
 all_for : (cs : List DevConfig) → map config_kind cs ≡ replicate (length cs) kind.Blk → number_for kind.Blk cs ≡ length cs
@@ -112,7 +112,7 @@ all_for [] is = refl
 all_for (c ∷ cs) is =
     let first : config_kind c ≡ kind.Blk = cc in
     let rest : map config_kind cs ≡ replicate (length cs) kind.Blk = cc in
-    let one : cond (rank (config_kind c) == rank kind.Blk) 1 0 ≡ 1 = ap (λ j. cond (rank j == rank kind.Blk) 1 0) first in
+    let one : 0 + cond (rank (config_kind c) == rank kind.Blk) 1 0 ≡ 1 = ap (λ j. 0 + cond (rank j == rank kind.Blk) 1 0) first in
     omega (arith, one, all_for cs rest)
 
 -- the sum of the first n numbers
@@ -139,17 +139,17 @@ sum_one (suc n) = omega (arith, sum_one n)
 not_yet : (a n : ℕ) → n ≤ a → sum_to (λ g. cond (a == g) 1 0) n ≡ 0
 not_yet a zero le = refl
 not_yet a (suc n) le =
-    let none : cond (a == n) 1 0 ≡ 0 = ap (λ t. cond t 1 0) (ne_eqb a n (λ e. absurd (omega (arith, e, le)))) in
+    let none : 0 + cond (a == n) 1 0 ≡ 0 = ap (λ t. 0 + cond t 1 0) (ne_eqb a n (λ e. absurd (omega (arith, e, le)))) in
     omega (arith, none, not_yet a n (omega (arith, le)))
 
 at_most_once : (a n : ℕ) → sum_to (λ g. cond (a == g) 1 0) n ≤ 1
 at_most_once a zero = omega arith
 at_most_once a (suc n) = elim (cases_eq a n) [
   | inl same ↦
-      let one : cond (a == n) 1 0 ≡ 1 = ap (λ t. cond t 1 0) (eq-eqb a n same) in
+      let one : 0 + cond (a == n) 1 0 ≡ 1 = ap (λ t. 0 + cond t 1 0) (eq-eqb a n same) in
       omega (arith, one, not_yet a n (omega (arith, same)))
   | inr ne ↦
-      let none : cond (a == n) 1 0 ≡ 0 = ap (λ t. cond t 1 0) (ne_eqb a n ne) in
+      let none : 0 + cond (a == n) 1 0 ≡ 0 = ap (λ t. 0 + cond t 1 0) (ne_eqb a n ne) in
       omega (arith, none, at_most_once a n)
 ]
 
@@ -201,19 +201,50 @@ set_there vs i w g ne = ap (λ ls. get_or ls g []) (map-set (λ x. x.items) vs i
 pub lists_push : {Z : Type 0} (vs : List (Vec DevConfig Z)) (w : Vec DevConfig Z) (ds : List DiskSpec) (bs : List (List ℕ)) (d : DiskSpec) (b : List ℕ) (g : ℕ)
     → d.guest < length vs → length ds ≡ length bs → w.items ≡ disks_at vs d.guest ++ disk_config d b (length (disks_at vs d.guest)) ∷ []
     → disks_at vs g ≡ disk_configs g 0 ds bs → disks_at (set vs d.guest w) g ≡ disk_configs g 0 (ds ++ d ∷ []) (bs ++ b ∷ [])
-lists_push vs w ds bs d b g lt long put is = elim (cases_eq g d.guest) [
-  | inl same ↦
-      ap (λ n. disks_at (set vs d.guest w) n) same
-      ∙ set_here vs d.guest w lt
-      ∙ put
-      ∙ ap (λ n. disks_at vs n ++ disk_config d b (length (disks_at vs n)) ∷ []) (sym same)
-      ∙ ap (λ (cs : List DevConfig). cs ++ disk_config d b (length cs) ∷ []) is
-      ∙ ap (λ t. disk_configs g 0 ds bs ++ cond t (disk_config d b (length (disk_configs g 0 ds bs)) ∷ []) []) (sym (eq-eqb d.guest g (sym same)))
-      ∙ sym (disks_push g 0 ds bs d b long)
-  | inr ne ↦
-      set_there vs d.guest w g ne
-      ∙ is
-      ∙ sym (append-nil (disk_configs g 0 ds bs))
-      ∙ ap (λ t. disk_configs g 0 ds bs ++ cond t (disk_config d b (length (disk_configs g 0 ds bs)) ∷ []) []) (sym (ne_eqb d.guest g (λ e. ne (sym e))))
-      ∙ sym (disks_push g 0 ds bs d b long)
-]
+lists_push vs w ds bs d b g lt long put is =
+    let here = disk_configs g 0 ds bs in
+    let count : length here ≡ 0 + length here = omega arith in
+    elim (cases_eq g d.guest) [
+      | inl same ↦
+          ap (λ n. disks_at (set vs d.guest w) n) same
+          ∙ set_here vs d.guest w lt
+          ∙ put
+          ∙ ap (λ n. disks_at vs n ++ disk_config d b (length (disks_at vs n)) ∷ []) (sym same)
+          ∙ ap (λ (cs : List DevConfig). cs ++ disk_config d b (length cs) ∷ []) is
+          ∙ ap (λ t. here ++ cond t (disk_config d b (length here) ∷ []) []) (sym (eq-eqb d.guest g (sym same)))
+          ∙ ap (λ n. here ++ cond (d.guest == g) (disk_config d b n ∷ []) []) count
+          ∙ sym (disks_push g 0 ds bs d b long)
+      | inr ne ↦
+          set_there vs d.guest w g ne
+          ∙ is
+          ∙ sym (append-nil here)
+          ∙ ap (λ t. here ++ cond t (disk_config d b (0 + length here) ∷ []) []) (sym (ne_eqb d.guest g (λ e. ne (sym e))))
+          ∙ sym (disks_push g 0 ds bs d b long)
+    ]
+
+-- the list that a read finds is that of its guest
+pub disks_held : {Z : Type 0} (vs : List (Vec DevConfig Z)) (held : Vec DevConfig Z) (i : ℕ) → held ≡ get_or vs i held → i < length vs → disks_at vs i ≡ held.items
+disks_held vs held i is lt = get_or-map (λ x. x.items) vs i held [] lt ∙ ap (λ v. v.items) (sym is)
+
+-- the disks of the guest whose turn it is
+pub disks_turn : {Z : Type 0} (vs : List (Vec DevConfig Z)) (held : Vec DevConfig Z) (i n : ℕ) (ds : List DevConfig) → held ≡ get_or vs i held → i ≡ n → i < length vs → ds ≡ held.items
+    → disks_at vs n ≡ ds
+disks_turn vs held i n ds is e lt same = ap (disks_at vs) (sym e) ∙ disks_held vs held i is lt ∙ sym same
+
+-- it is not longer than the list of all disks
+pub held_few : {Z : Type 0} (vs : List (Vec DevConfig Z)) (held : Vec DevConfig Z) (i : ℕ) (ds : List DiskSpec) (bs : List (List ℕ))
+    → held ≡ get_or vs i held → i < length vs → disks_at vs i ≡ disk_configs i 0 ds bs → length held.items ≤ length ds
+held_few vs held i ds bs is lt each =
+    omega (arith, ap length (disks_held vs held i is lt), ap length each, disks_length i 0 ds bs, count_by-le-length (λ (x : DiskSpec). x.guest == i) ds)
+
+-- a push to it puts the next disk of the file in its guest's list
+pub lists_put : {Z : Type 0} (vs : List (Vec DevConfig Z)) (held w : Vec DevConfig Z) (x : DevConfig) (n : ℕ) (ds : List DiskSpec) (bs : List (List ℕ)) (d : DiskSpec) (b : List ℕ) (g : ℕ)
+    → held ≡ get_or vs d.guest held → d.guest < length vs → w.items ≡ held.items ++ x ∷ [] → x ≡ disk_config d b n → n ≡ length held.items → length ds ≡ length bs
+    → disks_at vs g ≡ disk_configs g 0 ds bs → disks_at (set vs d.guest w) g ≡ disk_configs g 0 (ds ++ d ∷ []) (bs ++ b ∷ [])
+lists_put vs held w x n ds bs d b g is lt pushed made count long each =
+    let here = disks_held vs held d.guest is lt in
+    let put : w.items ≡ disks_at vs d.guest ++ disk_config d b (length (disks_at vs d.guest)) ∷ [] =
+        pushed
+        ∙ ap (λ y. held.items ++ y ∷ []) (made ∙ ap (disk_config d b) count)
+        ∙ ap (λ (cs : List DevConfig). cs ++ disk_config d b (length cs) ∷ []) (sym here) in
+    lists_push vs w ds bs d b g lt long put each

@@ -1,12 +1,12 @@
 -- Devices that were set up.
-use Rattle.std.proofs.Common.{◌≡◌, ℕ, List, [], ◌∷◌, ◌++◌, All, map, replicate, length, refl, sym, ap, ◌∙◌, subst}
+use Rattle.std.proofs.Common.{◌≡◌, ℕ, List, [], ◌∷◌, ◌++◌, All, map, replicate, length, refl, sym, ap, ◌∙◌}
 use Rattle.std.proofs.lemmas.List.{append-nil}
 use Rattle.std.proofs.lemmas.List.Elements.{All-cons, All-nil}
 use Rattle.dev_face.specs.declared.config.DevConfig.{DevConfig}
 use Rattle.dev_face.specs.declared.config.DevConfig.TheVariants as config
 use Rattle.dev_face.specs.declared.kind.Kind.{Kind}
 use Rattle.dev_face.specs.declared.kind.Kind.TheVariants as kind
-use Rattle.dev_face.specs.States.{DevState, IsComing, IsInLimits, opening, kind_of, config_kind}
+use Rattle.dev_face.specs.States.{IsComing, opening, kind_of, config_kind}
 use Rattle.guest_machine.specs.Opening.{machine_kinds}
 use Rattle.bench_build.specs.Takings.{AreDisks, with_base}
 
@@ -37,7 +37,3 @@ pub machine_has : (disks : List DevConfig) → AreDisks disks → map kind_of (m
 machine_has disks are =
     kinds_opened (with_base disks)
     ∙ ap (λ ks. kind.Clint ∷ kind.Uart ∷ ks) (are.kinds ∙ sym (append-nil (replicate (length disks) kind.Blk)))
-
--- a Clint and a Uart can be set up, and so can a guest's devices
-pub base_limits : All IsInLimits (with_base [])
-base_limits = All-cons IsInLimits config.Clint (config.Uart ∷ []) tt (All-cons IsInLimits config.Uart [] tt (All-nil IsInLimits))

@@ -1,9 +1,10 @@
 -- Machines that are made one after another, and what of a list stands at a place.
-use Rattle.std.proofs.Common.{◌≡◌, ℕ, zero, suc, ◌<◌, List, [], ◌∷◌, ◌++◌, map, length, All, Option, Some, None, refl, sym, ap, ◌∙◌, subst, arith}
-use Rattle.std.specs.Prelude.{slice_get, Ok, Err}
+use Rattle.std.proofs.Common.{◌≡◌, ℕ, zero, suc, ◌<◌, List, [], ◌∷◌, ◌++◌, map, length, All, get_or, Option, Some, None, refl, sym, ap, ◌∙◌, subst, arith}
+use Rattle.std.specs.Prelude.{slice_get, Result, Ok, Err, IfOk}
 use Rattle.std.specs.List.{flat_map}
 use Rattle.std.specs.Option.{option_map}
-use Rattle.std.proofs.lemmas.Option.{slice_get-map}
+use Rattle.std.proofs.lemmas.Option.{slice_get-map, slice_get_read, slice_get-get_or}
+use Rattle.std.proofs.lemmas.List.{map_push}
 use Rattle.dev_face.specs.States.{DevState}
 use Rattle.exp_file.specs.declared.guest_spec.GuestSpec.{GuestSpec}
 use Rattle.exp_file.specs.declared.link_spec.LinkSpec.{LinkSpec}
@@ -21,11 +22,27 @@ some_is e = cc
 none_is_some : {A B : Type 0} {x : A} → None ≡ Some x → B
 none_is_some e = cc
 
+-- what follows from what an answer says where it is good
+pub ok_then : {T E : Type 0} (r : Result T E) {P Q : T → Type 0} → IfOk r P → ((x : T) → P x → Q x) → IfOk r Q
+ok_then (Ok x) p f = f x p
+ok_then (Err e) p f = p
+
 -- a list has something at each of its places
 pub some_at : {A : Type 0} (xs : List A) (i : ℕ) → i < length xs → (x : A) × (slice_get xs i ≡ Some x)
 some_at [] i lt = absurd (omega arith)
 some_at (x ∷ xs) zero lt = (x, refl)
 some_at (x ∷ xs) (suc i) lt = some_at xs i (omega (arith, lt))
+
+-- what a read finds is what stands there
+pub read_is : {A : Type 0} (xs : List A) (i n : ℕ) (x y : A) → i ≡ n → i < length xs → x ≡ get_or xs i x → slice_get xs n ≡ Some y → x ≡ y
+read_is xs i n x y e lt is at = some_is (sym (slice_get_read xs (length xs) i x refl lt is) ∙ ap (slice_get xs) e ∙ at)
+
+-- an image that is taken by what a read finds is taken of the guest that stands there
+pub taken_is : (gs es : List GuestSpec) (i n : ℕ) (s g : GuestSpec) (b : List ℕ) (l : Loaded) → gs ≡ es → i ≡ n → i < length gs → s ≡ get_or gs i s → slice_get es n ≡ Some g
+    → image s.format s.ram b ≡ Ok l → image g.format g.ram b ≡ Ok l
+taken_is gs es i n s g b l same e lt is at taken =
+    let here : s ≡ g = read_is gs i n s g e lt is (ap (λ (zs : List GuestSpec). slice_get zs n) same ∙ at) in
+    ap (λ (k : GuestSpec). image k.format k.ram b) (sym here) ∙ taken
 
 -- what holds of all holds of the one at a place
 pub all_get : {A : Type 0} (P : A → Type 0) (xs : List A) (i : ℕ) (x : A) → All P xs → slice_get xs i ≡ Some x → P x
@@ -51,6 +68,20 @@ openings_push devices (h ∷ gs) [] g l at = ap (λ (k : GuestSpec). opening k.r
 openings_push devices [] (m ∷ ls) g l at = none_is_some at
 openings_push devices (h ∷ gs) (m ∷ ls) g l at =
     ap (λ ms. opening h.rate m.entry m.ram (devices 0) ∷ ms) (openings_push (λ n. devices (suc n)) gs ls g l at)
+
+-- and so the machines of one guest more open as they should
+pub states_push : {M : Type 0} (state : M → MachineState) (ms more : List M) (m : M) (devices : ℕ → List DevState) (gs : List GuestSpec) (ls : List Loaded) (l : Loaded) (i : ℕ)
+    (g : GuestSpec) (own : List DevState) → more ≡ ms ++ m ∷ [] → map state ms ≡ openings devices gs ls → state m ≡ opening (get_or gs i g).rate l.entry l.ram own
+    → i ≡ length ls → i < length gs → devices (length ls) ≡ own → map state more ≡ openings devices gs (ls ++ l ∷ [])
+states_push state ms more m devices gs ls l i g own pushed made opens e lt is =
+    let before = openings devices gs ls in
+    let at : slice_get gs (length ls) ≡ Some (get_or gs i g) = sym (ap (slice_get gs) e) ∙ slice_get-get_or gs i g lt in
+    ap (map state) pushed
+    ∙ map_push state ms m
+    ∙ ap (λ (zs : List MachineState). zs ++ state m ∷ []) made
+    ∙ ap (λ (z : MachineState). before ++ z ∷ []) opens
+    ∙ ap (λ (zs : List DevState). before ++ opening (get_or gs i g).rate l.entry l.ram zs ∷ []) (sym is)
+    ∙ sym (openings_push devices gs ls (get_or gs i g) l at)
 
 -- machines of the same devices
 pub openings_same : (f h : ℕ → List DevState) (gs : List GuestSpec) (ls : List Loaded) → ((g : ℕ) → g < length gs → f g ≡ h g) → openings f gs ls ≡ openings h gs ls

@@ -13,7 +13,8 @@ use exp_file::{Experiment, GuestSpec};
 fn nics_of(guests: &[GuestSpec]) -> usize
     requires few { length guests.now ≤ 32 }
     requires nics { All (λ g. g.nics ≤ 4) guests.now }
-    ensures { result ≡ sum (map (λ g. g.nics) guests.now) }
+    ensures nics { result ≡ sum (map (λ g. g.nics) guests.now) }
+    ensures bound { result ≤ 128 }
 {
     let mut nics: usize = 0;
     for guest in guests {
@@ -25,7 +26,8 @@ fn nics_of(guests: &[GuestSpec]) -> usize
 /// How many devices of a kind an experiment needs.
 fn needs(e: &Experiment, kind: Kind) -> usize
     requires { IsWellFormed e.now }
-    ensures { result ≡ needs e.now kind }
+    ensures needs { result ≡ needs e.now kind }
+    ensures bound { result ≤ 128 }
 {
     match kind {
         Kind::Clint => e.guests.len(),

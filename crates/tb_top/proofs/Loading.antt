@@ -5,6 +5,9 @@ use Rattle.std.specs.List.{AllZip}
 use Rattle.std.proofs.lemmas.List.{take_more}
 use Rattle.std.proofs.lemmas.Option.{slice_get_read}
 use Rattle.std.proofs.lemmas.Slice.Zip.{all_zipped_more}
+use Rattle.tb_io.specs.Reads.{Answers, Faults}
+use Rattle.tb_io.specs.declared.files.ReadErr.{ReadErr}
+use Rattle.tb_io.specs.declared.files.ReadErr.TheVariants as read
 use Rattle.exp_file.specs.declared.disk_spec.DiskSpec.{DiskSpec}
 use Rattle.exp_file.specs.declared.experiment.Experiment.{Experiment}
 use Rattle.exp_file.specs.declared.guest_spec.GuestSpec.{GuestSpec}
@@ -14,9 +17,10 @@ use Rattle.bench_build.specs.Inputs.{Inputs, with_image, with_disk}
 use Rattle.bench_build.specs.declared.builder.Builder.{Builder}
 use Rattle.bench_build.specs.declared.build_fault.BuildFault.{BuildFault}
 use Rattle.bench_build.specs.declared.build_fault.BuildFault.TheVariants as build
+use Rattle.tb_top.specs.declared.status.FileId.TheVariants as file
 use Rattle.tb_top.specs.Loads.{HasTaken, Unloaded, Overfills}
-use Rattle.tb_top.specs.Reads.{IsRead, HasRead, IsContent, IsLoaded, IsFilled, AreLoaded, Stops, image_limit}
-use Rattle.tb_top.specs.Statuses.{build_status, OrMemory}
+use Rattle.tb_top.specs.Reads.{IsRead, HasRead, IsTooLong, FailedAt, IsContent, IsLoaded, IsFilled, AreLoaded, Stops, image_limit, disk_limit}
+use Rattle.tb_top.specs.Statuses.{read_status, build_status, OrMemory}
 use Rattle.tb_top.specs.World.{FilesSeen}
 
 -- what was read of a file of this name
@@ -66,26 +70,38 @@ module _ (old new : FilesSeen) (e : Experiment) (slots : List ℕ) (first : Buil
   image_taken last same answer building =
       let more = taken_too e.guests.items i g guests all lt at_i (IsLoaded old.held) k.inputs.images b k.loaded.images (record { read = read; taken = image_at (Ok tt) answer }) in
       subst (λ (f : FilesSeen). HasTaken f (take (i + 1) e.guests.items) [] e slots last) (sym same)
-      (record { inputs = with_image k.inputs b; loaded = record { images = more; disks = k.loaded.disks }; building = building })
+      (record { inputs = with_image k.inputs b; loaded = record { images = more; contents = k.loaded.contents }; building = building })
 
 -- d is the j-th disk, and all images and the disks before it were taken
 module _ (old new : FilesSeen) (e : Experiment) (slots : List ℕ) (first : Builder) (j : ℕ) (d : DiskSpec) (disks : List DiskSpec) (all : disks ≡ e.disks.items) (lt : j < length e.disks.items)
-    (at_j : d ≡ get_or disks j d) (next : length first.contents.items ≡ j) (k : HasTaken old e.guests.items (take j e.disks.items) e slots first) (b : List ℕ) (read : IsContent old.held d.image b) where
-  disk_at : (r : Result (Unit {0}) BuildFault) → (slice_get e.disks.items (length k.inputs.disks) ≡ Some d → DiskAnswers (length k.inputs.disks) d b r) → DiskAnswers j d b r
-  disk_at r = answered e.disks.items j d disks all lt at_j (λ n. DiskAnswers n d b r) (length k.inputs.disks) (ap length (sym k.building.contents) ∙ next)
+    (at_j : d ≡ get_or disks j d) (next : length first.contents.items ≡ j) (k : HasTaken old e.guests.items (take j e.disks.items) e slots first) where
+  -- its image was not read
+  pub disk_unread : (name n : List ℕ) → d.image ≡ Some name → n ≡ name → (fault : ReadErr) → Answers (old.held n) disk_limit (Err fault)
+      → Faults (Err fault) n (old.faults, old.fault_name) (new.faults, new.fault_name) → OrMemory (Unloaded old new e) (read_status (file.Disk j) fault)
+  disk_unread name n image same read.Failed answer cause =
+      stopped e.disks.items j d disks all lt at_j (AreLoaded old.held e.guests.items) (λ x. (m : List ℕ) × (x.image ≡ Some m) × FailedAt old new m) k.inputs j refl k.loaded
+      (name, image, record { rose = cause.1; named = cause.2 ∙ same })
+  disk_unread name n image same read.TooLong answer cause =
+      stopped e.disks.items j d disks all lt at_j (AreLoaded old.held e.guests.items) (λ x. (m : List ℕ) × (x.image ≡ Some m) × IsTooLong (old.held m) disk_limit) k.inputs j refl k.loaded
+      (name, image, subst (λ (m : List ℕ). IsTooLong (old.held m) disk_limit) same answer)
+  disk_unread name n image same read.NoMemory answer cause = tt
 
-  pub disk_refused : (fault : BuildFault) → (slice_get e.disks.items (length k.inputs.disks) ≡ Some d → DiskAnswers (length k.inputs.disks) d b (Err fault))
-      → OrMemory (Unloaded old new e) (build_status fault)
-  disk_refused (build.DiskSize n len room) answer =
-      let bad = disk_at (Err (build.DiskSize n len room)) answer in
-      stopped e.disks.items j d disks all lt at_j (AreLoaded old.held e.guests.items) (Overfills old.held len room) k.inputs n bad.0 k.loaded
-      (record { bytes = b; read = read; len_is = bad.1; room_is = bad.2; over = bad.3 })
-  disk_refused build.NoMemory answer = tt
-  disk_refused fault answer = absurd (disk_at (Err fault) answer)
+  module _ (b : List ℕ) (read : IsContent old.held d.image b) where
+    disk_at : (r : Result (Unit {0}) BuildFault) → (slice_get e.disks.items (length k.inputs.disks) ≡ Some d → DiskAnswers (length k.inputs.disks) d b r) → DiskAnswers j d b r
+    disk_at r = answered e.disks.items j d disks all lt at_j (λ n. DiskAnswers n d b r) (length k.inputs.disks) (ap length (sym k.building.contents) ∙ next)
 
-  pub disk_taken : (last : Builder) → new ≡ old → (slice_get e.disks.items (length k.inputs.disks) ≡ Some d → Fills d b)
-      → IsBuilding e slots (with_disk k.inputs b) last → HasTaken new e.guests.items (take (j + 1) e.disks.items) e slots last
-  disk_taken last same answer building =
-      let more = taken_too e.disks.items j d disks all lt at_j (IsFilled old.held) k.inputs.disks b k.loaded.disks (record { read = read; fills = disk_at (Ok tt) answer }) in
-      subst (λ (f : FilesSeen). HasTaken f e.guests.items (take (j + 1) e.disks.items) e slots last) (sym same)
-      (record { inputs = with_disk k.inputs b; loaded = record { images = k.loaded.images; disks = more }; building = building })
+    pub disk_refused : (fault : BuildFault) → (slice_get e.disks.items (length k.inputs.disks) ≡ Some d → DiskAnswers (length k.inputs.disks) d b (Err fault))
+        → OrMemory (Unloaded old new e) (build_status fault)
+    disk_refused (build.DiskSize n len room) answer =
+        let bad = disk_at (Err (build.DiskSize n len room)) answer in
+        stopped e.disks.items j d disks all lt at_j (AreLoaded old.held e.guests.items) (Overfills old.held len room) k.inputs n bad.0 k.loaded
+        (record { bytes = b; read = read; len_is = bad.1; room_is = bad.2; over = bad.3 })
+    disk_refused build.NoMemory answer = tt
+    disk_refused fault answer = absurd (disk_at (Err fault) answer)
+
+    pub disk_taken : (last : Builder) → new ≡ old → (slice_get e.disks.items (length k.inputs.disks) ≡ Some d → Fills d b)
+        → IsBuilding e slots (with_disk k.inputs b) last → HasTaken new e.guests.items (take (j + 1) e.disks.items) e slots last
+    disk_taken last same answer building =
+        let more = taken_too e.disks.items j d disks all lt at_j (IsFilled old.held) k.inputs.disks b k.loaded.contents (record { read = read; fills = disk_at (Ok tt) answer }) in
+        subst (λ (f : FilesSeen). HasTaken f e.guests.items (take (j + 1) e.disks.items) e slots last) (sym same)
+        (record { inputs = with_disk k.inputs b; loaded = record { images = k.loaded.images; contents = more }; building = building })

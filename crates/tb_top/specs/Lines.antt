@@ -84,16 +84,16 @@ kind_word kind.Uart = codes "uart"
 kind_word kind.Blk = codes "blk"
 kind_word kind.Net = codes "net"
 
-unfoldable pub build_words : BuildFault → List ℕ
-build_words (build.Image guest fault) = codes "image " ++ decimal guest ++ image_words fault
-build_words (build.DiskSize disk len room) = codes "disk " ++ decimal disk ++ codes ": " ++ decimal len ++ codes " bytes, room " ++ decimal room
-build_words (build.NoDevice k wanted had) = codes "stock: " ++ kind_word k ++ codes " wanted " ++ decimal wanted ++ codes ", had " ++ decimal had
-build_words build.NoMemory = codes "out of memory"
-
 abbrev pub file_words : FileId → List ℕ
 file_words file.Experiment = codes "experiment"
 file_words (file.Image i) = codes "image " ++ decimal i
 file_words (file.Disk i) = codes "disk " ++ decimal i
+
+unfoldable pub build_words : BuildFault → List ℕ
+build_words (build.Image guest fault) = codes "image " ++ decimal guest ++ image_words fault
+build_words (build.DiskSize disk len room) = file_words (file.Disk disk) ++ codes ": " ++ decimal len ++ codes " bytes, room " ++ decimal room
+build_words (build.NoDevice k wanted had) = codes "stock: " ++ kind_word k ++ codes " wanted " ++ decimal wanted ++ codes ", had " ++ decimal had
+build_words build.NoMemory = codes "out of memory"
 
 -- the line of a status; `Done` has none
 unfoldable pub status_line : Status → List ℕ

@@ -1,5 +1,5 @@
 -- Why the images and disks of a run were not all taken, and what a builder has taken so far.
-use Rattle.std.specs.Prelude.{◌≡◌, ℕ, ◌<◌, List, length, Some}
+use Rattle.std.specs.Prelude.{◌≡◌, ℕ, ◌<◌, List, length, Option, Some}
 use Rattle.exp_file.specs.declared.disk_spec.DiskSpec.{DiskSpec}
 use Rattle.exp_file.specs.declared.experiment.Experiment.{Experiment}
 use Rattle.exp_file.specs.declared.guest_spec.GuestSpec.{GuestSpec}

@@ -62,7 +62,7 @@ pub record IsFilled (held : List ℕ → Option (List ℕ)) (d : DiskSpec) (b : 
 -- the images of some guests and the content of some disks were read, and all were taken
 pub record AreLoaded (held : List ℕ → Option (List ℕ)) (guests : List GuestSpec) (disks : List DiskSpec) (i : Inputs) : Type 0 where
   pub images : AllZip (IsLoaded held) guests i.images
-  pub disks : AllZip (IsFilled held) disks i.disks
+  pub contents : AllZip (IsFilled held) disks i.disks
 
 -- what comes before the i-th of some things was taken, and of this thing something holds
 pub record Stops {A : Type 0} (Before : List A → Inputs → Type 0) (things : List A) (i : ℕ) (P : A → Type 0) : Type 0 where

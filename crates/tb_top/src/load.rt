@@ -78,11 +78,14 @@ fn load_disk<F: Files>(
 {
     let disks = e.disks.as_slice();
     let spec = &disks[disk];
-    let Some(name) = &spec.image else {
-        return match builder.add_disk(None) {
-            Ok(()) => Ok(()),
-            Err(fault) => Err(build_status(fault)),
-        };
+    let name = match &spec.image {
+        Some(name) => name,
+        None => {
+            return match builder.add_disk(None) {
+                Ok(()) => Ok(()),
+                Err(fault) => Err(build_status(fault)),
+            };
+        }
     };
     let bytes = match files.read(alloc, name.as_str(), DISK_FILE) {
         Ok(bytes) => bytes,

@@ -145,7 +145,7 @@ fn add_build(line: &mut Bytes, fault: &BuildFault) -> Result<(), NoMemory>
             add_image(line, *fault)?;
         }
         BuildFault::DiskSize { disk, len, room } => {
-            put_field(line, b"disk ", u64::from(*disk))?;
+            add_file(line, FileId::Disk(*disk))?;
             put_field(line, b": ", *len)?;
             put_field(line, b" bytes, room ", *room)?;
         }

@@ -77,7 +77,10 @@ fn put_run<N: Node, O: Sink, K: Show<O>>(
     ensures cause { WriteCause (O.faults out.old) (O.faults out.new) result }
 {
     let mut bench = bench;
-    keep.start(out)?;
+    match keep.start(out) {
+        Ok(()) => (),
+        Err(e) => return Err(e),
+    }
     match bench.run(keep, out, host_ticks) {
         Ok(()) => (),
         Err(e) => return Err(of_tick(e)),

@@ -1,4 +1,4 @@
-use Rattle.std.proofs.Common.{List, All, length, map, ap, sym, ◌∙◌, subst}
+use Rattle.std.proofs.Common.{List, All, length, map, refl, ap, sym, ◌∙◌, subst}
 use Rattle.dev_face.specs.States.{DevState, IsComing, kind_of}
 use Rattle.bench_build.specs.Takings.{with_base}
 use Rattle.bench_build.proofs.Opened.{all_coming, machine_has}
@@ -10,3 +10,6 @@ build-requires-clause-kinds g c = ap (map kind_of) c.in_ok-devices.ensures.opene
 pub build-requires-clause-coming : goal.build-requires-clause-coming
 build-requires-clause-coming g c =
     subst (All (IsComing 0 (length c.args.loaded.ram))) (sym c.in_ok-devices.ensures.opened) (all_coming (length c.args.loaded.ram) (with_base c.args.disks.now))
+
+pub build-requires-clause-few : goal.build-requires-clause-few
+build-requires-clause-few g c = (c.requires.disks.few, refl)

@@ -1,13 +1,16 @@
 -- The boxes are counted.
 use Rattle.std.proofs.Common.{refl, arith}
+use Rattle.dev_face.specs.contracts.boxed.BoxDynDeviceDevice.TheImpl.{state-value}
 use Rattle.tb_top.proofs.Claims.{completes, headline, planned}
 use Rattle.tb_top.specs.World.{texts, world}
 use Rattle.diecast.specs.Boxes.{boxes}
 use Rattle.diecast.proofs.Supplied.{boxes_suffice, is_stock, of_boxes, supplied}
+use Rattle.diecast.proofs.boxes.run_with.OwnLists.{own-1, lawful-own-1}
 use Rattle.diecast.proofs.boxes.run_with.Goals as goal
 
 pub diecast-requires : goal.diecast-requires
-diecast-requires g c = ?
+diecast-requires g c =
+    is_stock (state-value (own-1, lawful-own-1)).it c.loop.clints.items c.loop.uarts.items c.loop-2.blks.items c.loop.invariant.clints c.loop.invariant.uarts c.loop-2.invariant.blks
 
 pub returns : goal.returns
 returns g c =

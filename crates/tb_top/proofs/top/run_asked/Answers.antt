@@ -30,17 +30,17 @@ use Rattle.tb_top.specs.World.{World, Quiet}
 use Rattle.tb_top.proofs.top.run_asked.Goals as goal
 
 -- a run of the experiment that stands so was asked for
-module _ {w : World} {n : ℕ} (a : Asked) (ready : IsReady a) (asked : IsAsked w.words w.files.held (Run n) (without_room a.experiment)) where
-  stands : a.placement.slots.items ≡ placed (without_room a.experiment)
-  stands = ready.placed_so ∙ placed_room a.experiment
+stands : (a : Asked) → IsReady a → a.placement.slots.items ≡ placed (without_room a.experiment)
+stands a ready = ready.placed_so ∙ placed_room a.experiment
 
+module _ (w : World) (n : ℕ) (a : Asked) (ready : IsReady a) (asked : IsAsked w.words w.files.held (Run n) (without_room a.experiment)) where
   -- its placement does not fit
   ends_over : (o : Over) → Quiet w → IsFirstOverload a.experiment a.placement.slots.items o → Ends w (over_status o)
-  ends_over o quiet over = ended (Run n) _ asked (over_room a.experiment _ o (subst (λ (q : List ℕ). IsFirstOverload a.experiment q o) stands over), quiet)
+  ends_over o quiet over = ended (Run n) _ asked (over_room a.experiment _ o (subst (λ (q : List ℕ). IsFirstOverload a.experiment q o) (stands a ready) over), quiet)
 
   module _ (fits : Fits a.experiment a.placement.slots.items) where
     fits_so : Fits a.experiment (placed (without_room a.experiment))
-    fits_so = subst (Fits a.experiment) stands fits
+    fits_so = subst (Fits a.experiment) (stands a ready) fits
 
     -- its images and disks were not all taken
     unloaded : (s : Status) → Quiet w → Unloaded w.files w.files_after a.experiment s → TaskEnds w (Run n) (without_room a.experiment) s
@@ -81,19 +81,19 @@ module _ {w : World} {n : ℕ} (a : Asked) (ready : IsReady a) (asked : IsAsked 
 
         ends_run : (r : Result (Unit {0}) WriteErr) → WriteCause w.out.faults w.out_after.faults r
             → Runs a.experiment a.placement.slots.items i n w.out.taken w.out_after.taken r → Ends w (run_status r)
-        ends_run r cause runs = ran r cause (subst (λ (q : List ℕ). Runs a.experiment q i n w.out.taken w.out_after.taken r) stands runs)
+        ends_run r cause runs = ran r cause (subst (λ (q : List ℕ). Runs a.experiment q i n w.out.taken w.out_after.taken r) (stands a ready) runs)
 
 pub returns-in-Err-clause-ends : goal.returns-in-Err-clause-ends
-returns-in-Err-clause-ends g c = λ words asked. rw c.over_status.ensures (ends_over c.args.asked.now c.requires.ready asked c.in-Err.over refl c.in-Err.ensures.over)
+returns-in-Err-clause-ends g c = λ words asked. rw c.over_status.ensures (ends_over _ c.args.host_ticks c.args.asked.now c.requires.ready asked c.in-Err.over refl c.in-Err.ensures.over)
 
 pub returns-in-Err-load-clause-ends : goal.returns-in-Err-load-clause-ends
-returns-in-Err-load-clause-ends g c = λ words asked. ends_unloaded c.args.asked.now c.requires.ready asked c.in-Ok.ensures.fits c.in-Err-load.status refl c.in-Err-load.ensures.missed
+returns-in-Err-load-clause-ends g c = λ words asked. ends_unloaded _ c.args.host_ticks c.args.asked.now c.requires.ready asked c.in-Ok.ensures.fits c.in-Err-load.status refl c.in-Err-load.ensures.missed
 
 pub returns-in-Err-finish-clause-ends : goal.returns-in-Err-finish-clause-ends
 returns-in-Err-finish-clause-ends g c = λ words asked.
     let t = c.in-Ok-load.ensures.taken in
     rw c.build_status.ensures
-    (ends_unbuilt c.args.asked.now c.requires.ready asked c.in-Ok.ensures.fits t.inputs t.loaded c.in-Err-finish.fault refl (c.in-Err-finish.ensures.fault _ _ t.inputs t.building))
+    (ends_unbuilt _ c.args.host_ticks c.args.asked.now c.requires.ready asked c.in-Ok.ensures.fits t.inputs t.loaded c.in-Err-finish.fault refl (c.in-Err-finish.ensures.fault _ _ t.inputs t.building))
 
 pub returns-clause-ends : goal.returns-clause-ends
 returns-clause-ends g c = λ words asked.
@@ -101,5 +101,5 @@ returns-clause-ends g c = λ words asked.
     let t = c.in-Ok-load.ensures.taken in
     let stands = c.in-Ok-finish.ensures.stands a.experiment a.placement.slots.items t.inputs c.args.host_ticks t.building in
     rw c.run_status.ensures
-    (ends_run a c.requires.ready asked c.in-Ok.ensures.fits t.inputs t.loaded (c.in-Ok-finish.ensures.stock _ _ t.inputs t.building) c.run.result c.run.ensures.cause
+    (ends_run _ c.args.host_ticks a c.requires.ready asked c.in-Ok.ensures.fits t.inputs t.loaded (c.in-Ok-finish.ensures.stock _ _ t.inputs t.building) c.run.result c.run.ensures.cause
     (c.run.ensures.runs a.placement.slots.items t.inputs stands.0 stands.1 (c.in-Ok-finish.ensures.plan a.experiment a.placement.slots.items t.inputs c.args.host_ticks t.building)))

@@ -1,7 +1,9 @@
 -- How a command without an experiment ends, and one that asks for a plan.
-use Rattle.std.proofs.Common.{◌≡◌, ℕ, List, inl, inr, ◌∙◌, subst}
+use Rattle.std.proofs.Common.{◌≡◌, ℕ, List, inl, inr, refl, ◌∙◌, subst}
 use Rattle.exp_file.specs.Lists.{without_room}
+use Rattle.exp_file.specs.declared.experiment.Experiment.{Experiment}
 use Rattle.host_plan.specs.Placing.{placed}
+use Rattle.bench_build.specs.Stocks.{counts, items_of}
 use Rattle.tb_top.specs.Asking.{IsReady}
 use Rattle.tb_top.specs.Ends.{Ends, no_memory, no_experiment, ended, Refuses, IsAsked}
 use Rattle.tb_top.specs.Plans.{Plans}
@@ -10,7 +12,8 @@ use Rattle.tb_top.specs.World.{FilesSeen, World, Quiet, files_seen, world, texts
 use Rattle.tb_top.specs.declared.ask.Asked.{Asked}
 use Rattle.tb_top.specs.declared.status.Status.{Status}
 use Rattle.tb_top.specs.declared.status.Status.TheVariants.{Done, Overload, WriteFault, Memory}
-use Rattle.tb_top.specs.declared.words.Task.TheVariants.{Plan}
+use Rattle.tb_top.specs.declared.words.Task.{Task}
+use Rattle.tb_top.specs.declared.words.Task.TheVariants.{Run, Plan}
 use Rattle.host_plan.proofs.Room.{placed_room, over_room}
 use Rattle.plan_text.proofs.Room.{puts_room, part_room}
 use Rattle.tb_top.proofs.top.work.Goals as goal
@@ -33,6 +36,10 @@ module _ {w : World} (a : Asked) (ready : IsReady a) (asked : IsAsked w.words w.
   planned : (s : Status) → Plans a.experiment a.placement.slots.items w.out w.out_after s → Ends w s
   planned s plans = plan_ends s (subst (λ (q : List ℕ). Plans a.experiment q w.out w.out_after s) (ready.placed_so ∙ placed_room a.experiment) plans)
 
+-- a task of an experiment ends the same where the files that it began with are those of the command
+since : (w : World) (f : FilesSeen) (t : Task) (e : Experiment) (s : Status) → w.files ≡ f → IsAsked w.words f.held t e → (IsAsked w.words w.files.held t e → Ends w s) → Ends (record w { files = f }) s
+since w f t e s same asked ends = subst (λ (x : FilesSeen). IsAsked w.words x.held t e → Ends (record w { files = x }) s) same ends asked
+
 pub returns-in-Err-clause-ends : goal.returns-in-Err-clause-ends
 returns-in-Err-clause-ends g c = unasked c.in-Err.status refl c.in-Err.ensures.refused
 
@@ -41,5 +48,5 @@ returns-in-Plan-clause-ends g c = planned c.in-Ok.asked c.in-Ok.ensures.ready (r
 
 pub returns-in-Run-clause-ends : goal.returns-in-Run-clause-ends
 returns-in-Run-clause-ends g c =
-    let ran = c.run_asked.ensures.ends (texts c.args.words.now) in
-    ?
+    since (world (texts c.args.words.now) g.F.Files c.ask.new.files c.run_asked.new.files g.O.Sink c.args.out.now c.run_asked.new.out (counts (items_of c.args.stock))) (files_seen g.F.Files c.args.files.now)
+    (Run c.in-Run.host_ticks) (without_room c.in-Ok.asked.experiment) c.run_asked.result c.in-Ok.ensures.same (rw c.in-Run.is at c.in-Ok.ensures.asked) (c.run_asked.ensures.ends (texts c.args.words.now))
