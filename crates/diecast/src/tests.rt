@@ -24,52 +24,56 @@ pub(crate) fn owned(alloc: Global, words: &str) -> Result<Vec<String>, Fail> {
     Ok(owned)
 }
 
-/// Runs a command where `a.toml` holds a text and one put to the output, if there are so many, fails after three
-/// bytes, and reports how it ended. The message is put to a sink of so many bytes.
-fn report_of(alloc: Global, case: &Case<'_>, room: usize) -> Result<String, Fail> {
+/// Whether a command ends as its case tells, where its message is put to a sink of so much room, if there is any.
+fn ends_so(alloc: Global, case: &Case<'_>, room: usize) -> Result<bool, Fail> {
     let words = owned(alloc, case.words)?;
     let mut files = Watched::new(alloc, case.text)?;
     let mut out = MemSink::new(alloc, 20_000)?;
     let mut msg = MemSink::new(alloc, room)?;
     out.fail_put(case.put, 3)?;
     let status = run_with(alloc, &words, &mut files, &mut out, &mut msg)?;
-    let code = code_of(&status);
-    let reads = files.reads();
-    let lines = shown(alloc, out.bytes(), case.shown)?;
-    let message = str::from_utf8(msg.bytes())?;
-    Ok(format!(in alloc; "exit {code} after {reads} reads\n{lines}--\n{message}")?)
+    let told = if room == 0 { "" } else { case.msg };
+    Ok(
+        code_of(&status) == case.code
+            && files.reads() == case.reads
+            && is_shown(alloc, out.bytes(), case)?
+            && msg.bytes() == told.as_bytes(),
+    )
 }
 
-/// All of a journal, or its records of the first four ticks, or its other lines.
-fn shown(alloc: Global, journal: &[u8], what: &str) -> Result<String, Fail> {
-    let text = str::from_utf8(journal)?;
-    if what == "all" {
-        return Ok(String::from_str(alloc, text)?);
+/// Whether the lines of a journal that a case tells of are those that it tells: all of them, its records of the first
+/// four ticks, or its other lines.
+fn is_shown(alloc: Global, journal: &[u8], case: &Case<'_>) -> Result<bool, Fail> {
+    if case.shown == "all" {
+        return Ok(journal == case.out.as_bytes());
     }
+    let records = case.shown == "records";
     let mut lines = String::new(alloc);
-    for line in text.lines() {
-        let is_record = line.contains(" instr ") || line.contains(" trap ");
-        if what == "records" && line.starts_with("4 ") {
+    for line in str::from_utf8(journal)?.lines() {
+        if records && line.starts_with("4 ") {
             break;
         }
-        if is_record == (what == "records") {
+        if is_record(line) == records {
             lines.push_str(line)?;
             lines.push('\n')?;
         }
     }
-    Ok(lines)
+    Ok(lines.as_str() == case.out)
+}
+
+fn is_record(line: &str) -> bool {
+    line.contains(" instr ") || line.contains(" trap ")
 }
 
 /// Each command ends so, and does so where its message cannot be put.
 #[test]
 fn commands_end_as_the_table_says(rt: HostRuntime) -> Result<(), Fail> {
-    let alloc = rt.alloc();
     for text in CASES.split("==\n") {
         let case = case_of(text)?;
-        let told = report_of(alloc, &case, 200)?;
-        let untold = report_of(alloc, &case, 0)?;
-        assert_eq!(rt; told.as_str(), case.report, "{text}");
-        assert!(rt; case.report.starts_with(untold.as_str()), "{text}");
+        for room in [200, 0] {
+            let right = ends_so(rt.alloc(), &case, room)?;
+            assert!(rt; right, "{text}");
+        }
     }
     Ok(())
 }
@@ -99,17 +103,18 @@ fn crowd(alloc: Global, guests: u32) -> Result<(String, String), Fail> {
 /// There are boxes for as many guests as an experiment may have.
 #[test]
 fn thirty_two_guests(rt: HostRuntime) -> Result<(), Fail> {
-    let alloc = rt.alloc();
-    let (text, journal) = crowd(alloc, 32)?;
+    let (text, journal) = crowd(rt.alloc(), 32)?;
     let case = Case {
         words: "run a.toml --host-ticks 1 --view journal",
         put: 0,
         shown: "all",
+        code: 0,
+        reads: 33,
         text: text.as_str(),
-        report: "",
+        out: journal.as_str(),
+        msg: "",
     };
-    let report = report_of(alloc, &case, 0)?;
-    let wanted = format!(in alloc; "exit 0 after 33 reads\n{journal}--\n")?;
-    assert_eq!(rt; report.as_str(), wanted.as_str());
+    let right = ends_so(rt.alloc(), &case, 0)?;
+    assert!(rt; right);
     Ok(())
 }

@@ -1,36 +1,53 @@
 //! Commands, and how each ends.
 use std::test::Fail;
 
-/// A command where `a.toml` holds a text, and the report of its end.
+/// A command where `a.toml` holds a text, and how it ends.
 #[derive(Clone, Copy)]
 pub(crate) struct Case<'a> {
     pub words: &'a str,
     /// The put to the output that fails, if there are so many.
     pub put: u64,
-    /// Which lines of the output are reported.
+    /// Which lines of the output are told.
     pub shown: &'a str,
+    /// The exit status.
+    pub code: u8,
+    /// How many files are asked for.
+    pub reads: u64,
     pub text: &'a str,
-    pub report: &'a str,
+    /// These lines of the output.
+    pub out: &'a str,
+    pub msg: &'a str,
+}
+
+/// What stands before and behind the first of a separator.
+fn split<'a>(text: &'a str, at: &str) -> (&'a str, &'a str) {
+    text.split_once(at).unwrap_or((text, ""))
 }
 
 /// The case that a text says.
-pub(crate) fn case_of(text: &str) -> Result<Case<'_>, Fail> {
-    let (head, rest) = text.split_once('\n').unwrap_or((text, ""));
-    let (words, columns) = head.split_once('|').unwrap_or((head, ""));
-    let (put, shown) = columns.split_once('|').unwrap_or((columns, ""));
-    let (text, report) = rest.split_once("--\n").unwrap_or((rest, ""));
+pub(crate) fn case_of(case: &str) -> Result<Case<'_>, Fail> {
+    let (head, rest) = split(case, "\n");
+    let (words, head) = split(head, "|");
+    let (put, head) = split(head, "|");
+    let (shown, head) = split(head, "|");
+    let (code, reads) = split(head, "|");
+    let (text, rest) = split(rest, "--\n");
+    let (out, msg) = split(rest, "--\n");
     Ok(Case {
         words,
         put: put.parse()?,
         shown,
+        code: code.parse()?,
+        reads: reads.parse()?,
         text,
-        report,
+        out,
+        msg,
     })
 }
 
-/// The cases: the words, the put that fails and the lines that are reported; then the text of `a.toml`; and then
-/// the report, which has the exit status, how many files were asked for, lines of the output, and the message.
-pub(crate) const CASES: &str = r"run a.toml --host-ticks 4 --view journal|0|all
+/// The cases: the words, the put that fails, the lines that are told, the exit status, and how many files are asked for;
+/// then the text of `a.toml`, lines of the output, and the message.
+pub(crate) const CASES: &str = r"run a.toml --host-ticks 4 --view journal|0|all|0|2
 version = 1
 factor = 2
 slot = [{ capacity = 1 }]
@@ -38,7 +55,6 @@ guest = [
   { name = 'a', image = 'jump', format = 'flat', ram = 4096, rate = 2 },
 ]
 --
-exit 0 after 2 reads
 diecast 1 factor 2 slots 1 guests 1 host 4
 host 1
 slot 0
@@ -59,7 +75,7 @@ run 0 units 1 done 2
 end 4
 --
 ==
-run a.toml --host-ticks 4 --view journal|0|all
+run a.toml --host-ticks 4 --view journal|0|all|0|2
 version = 1
 factor = 2
 slot = [{ capacity = 1 }]
@@ -67,7 +83,6 @@ guest = [
   { name = 'a', image = 'elf', ram = 4096, rate = 2, slot = 0 },
 ]
 --
-exit 0 after 2 reads
 diecast 1 factor 2 slots 1 guests 1 host 4
 host 1
 slot 0
@@ -88,7 +103,7 @@ run 0 units 1 done 2
 end 4
 --
 ==
-run a.toml --host-ticks 0 --view journal|0|all
+run a.toml --host-ticks 0 --view journal|0|all|0|2
 version = 1
 factor = 2
 slot = [{ capacity = 1 }]
@@ -96,12 +111,11 @@ guest = [
   { name = 'a', image = 'jump', format = 'flat', ram = 4096, rate = 2, slot = 0 },
 ]
 --
-exit 0 after 2 reads
 diecast 1 factor 2 slots 1 guests 1 host 0
 end 0
 --
 ==
-run a.toml --host-ticks 2 --view journal|0|all
+run a.toml --host-ticks 2 --view journal|0|all|0|2
 version = 1
 factor = 1
 slot = [{ capacity = 1 }, { capacity = 1 }]
@@ -109,7 +123,6 @@ guest = [
   { name = 'a', image = 'jump', format = 'flat', ram = 4096, rate = 1, slot = 0 },
 ]
 --
-exit 0 after 2 reads
 diecast 1 factor 1 slots 2 guests 1 host 2
 host 1
 slot 0
@@ -124,7 +137,7 @@ slot 1
 end 2
 --
 ==
-run a.toml --host-ticks 1 --view journal|0|all
+run a.toml --host-ticks 1 --view journal|0|all|0|2
 version = 1
 factor = 1
 slot = [{ capacity = 1001 }]
@@ -132,7 +145,6 @@ guest = [
   { name = 'a', image = 'wait', format = 'flat', ram = 4096, rate = 5, slot = 0 },
 ]
 --
-exit 0 after 2 reads
 diecast 1 factor 1 slots 1 guests 1 host 1
 host 1
 slot 0
@@ -142,7 +154,7 @@ run 0 units 1000 done 1001
 end 1
 --
 ==
-run a.toml --host-ticks 1 --view journal|0|all
+run a.toml --host-ticks 1 --view journal|0|all|0|2
 version = 1
 factor = 1
 slot = [{ capacity = 510 }]
@@ -150,7 +162,6 @@ guest = [
   { name = 'a', image = 'alarm', format = 'flat', ram = 4096, rate = 7, slot = 0 },
 ]
 --
-exit 0 after 2 reads
 diecast 1 factor 1 slots 1 guests 1 host 1
 host 1
 slot 0
@@ -167,7 +178,7 @@ run 0 units 4 done 500
 end 1
 --
 ==
-run a.toml --host-ticks 1 --view journal|0|all
+run a.toml --host-ticks 1 --view journal|0|all|0|2
 version = 1
 factor = 1
 slot = [{ capacity = 2 }]
@@ -175,7 +186,6 @@ guest = [
   { name = 'a', image = 'misaligned', format = 'flat', ram = 4096, rate = 2, slot = 0 },
 ]
 --
-exit 0 after 2 reads
 diecast 1 factor 1 slots 1 guests 1 host 1
 host 1
 slot 0
@@ -185,7 +195,7 @@ run 0 units 2 done 1
 end 1
 --
 ==
-run a.toml --host-ticks 1 --view journal|0|all
+run a.toml --host-ticks 1 --view journal|0|all|0|2
 version = 1
 factor = 1
 slot = [{ capacity = 1 }]
@@ -193,7 +203,6 @@ guest = [
   { name = 'a', image = 'zeros', format = 'flat', ram = 4096, rate = 1, slot = 0 },
 ]
 --
-exit 0 after 2 reads
 diecast 1 factor 1 slots 1 guests 1 host 1
 host 1
 slot 0
@@ -202,7 +211,7 @@ run 0 units 1 done 1
 end 1
 --
 ==
-run a.toml --host-ticks 2 --view journal|0|all
+run a.toml --host-ticks 2 --view journal|0|all|0|2
 version = 1
 factor = 1
 slot = [{ capacity = 5 }]
@@ -210,7 +219,6 @@ guest = [
   { name = 'a', image = 'off', format = 'flat', ram = 4096, rate = 5, slot = 0 },
 ]
 --
-exit 0 after 2 reads
 diecast 1 factor 1 slots 1 guests 1 host 2
 host 1
 slot 0
@@ -227,7 +235,7 @@ run 0 units 5 done 7
 end 2
 --
 ==
-run a.toml --host-ticks 1 --view journal|0|all
+run a.toml --host-ticks 1 --view journal|0|all|0|2
 version = 1
 factor = 1
 slot = [{ capacity = 4 }]
@@ -235,7 +243,6 @@ guest = [
   { name = 'a', image = 'sends', format = 'flat', ram = 4096, rate = 4, slot = 0 },
 ]
 --
-exit 0 after 2 reads
 diecast 1 factor 1 slots 1 guests 1 host 1
 host 1
 slot 0
@@ -248,7 +255,7 @@ run 0 units 4 done 1
 end 1
 --
 ==
-run a.toml --host-ticks 4 --view journal|0|records
+run a.toml --host-ticks 4 --view journal|0|records|0|2
 version = 1
 factor = 1
 slot = [{ capacity = 5 }]
@@ -256,7 +263,6 @@ guest = [
   { name = 'a', image = 'timer', format = 'flat', ram = 4096, rate = 5, slot = 0 },
 ]
 --
-exit 0 after 2 reads
 0 0 instr 80000000 800002b7
 0 0 instr 80000004 04028293
 0 0 instr 80000008 30529073
@@ -279,7 +285,7 @@ exit 0 after 2 reads
 3 0 instr 80000040 0000006f
 --
 ==
-run a.toml --host-ticks 40 --view journal|0|records
+run a.toml --host-ticks 40 --view journal|0|records|0|2
 version = 1
 factor = 10
 slot = [{ capacity = 5 }]
@@ -287,7 +293,6 @@ guest = [
   { name = 'a', image = 'timer', format = 'flat', ram = 4096, rate = 5, slot = 0 },
 ]
 --
-exit 0 after 2 reads
 0 0 instr 80000000 800002b7
 0 0 instr 80000004 04028293
 0 0 instr 80000008 30529073
@@ -310,7 +315,7 @@ exit 0 after 2 reads
 3 0 instr 80000040 0000006f
 --
 ==
-plan a.toml|0|all
+plan a.toml|0|all|0|1
 version = 1
 factor = 2
 slot = [{ capacity = 4 }]
@@ -320,7 +325,6 @@ guest = [
   { name = 'c', image = 'jump', format = 'flat', ram = 4096, rate = 2, slot = 0 },
 ]
 --
-exit 0 after 1 reads
 plan factor 2 slots 1 guests 3
 slot 0 need 8 have 8
 guest 0 a slot 0 rate 3
@@ -330,7 +334,7 @@ least 2 slot 0
 fits
 --
 ==
-run a.toml --host-ticks 4 --view journal|0|schedule
+run a.toml --host-ticks 4 --view journal|0|schedule|0|4
 version = 1
 factor = 2
 slot = [{ capacity = 4 }]
@@ -340,7 +344,6 @@ guest = [
   { name = 'c', image = 'jump', format = 'flat', ram = 4096, rate = 2, slot = 0 },
 ]
 --
-exit 0 after 4 reads
 diecast 1 factor 2 slots 1 guests 3 host 4
 host 1
 slot 0
@@ -361,7 +364,7 @@ run 2 units 2 done 2
 end 4
 --
 ==
-run a.toml --host-ticks 7 --view journal|0|schedule
+run a.toml --host-ticks 7 --view journal|0|schedule|0|3
 version = 1
 factor = 3
 slot = [{ capacity = 2 }]
@@ -370,7 +373,6 @@ guest = [
   { name = 'b', image = 'jump', format = 'flat', ram = 4096, rate = 3, slot = 0 },
 ]
 --
-exit 0 after 3 reads
 diecast 1 factor 3 slots 1 guests 2 host 7
 host 1
 slot 0
@@ -398,7 +400,7 @@ run 0 units 2 done 2
 end 7
 --
 ==
-plan a.toml|0|all
+plan a.toml|0|all|1|1
 version = 1
 factor = 1
 slot = [{ capacity = 8 }, { capacity = 8 }]
@@ -408,7 +410,6 @@ guest = [
   { name = 'c', image = 'jump', format = 'flat', ram = 4096, rate = 4 },
 ]
 --
-exit 1 after 1 reads
 plan factor 1 slots 2 guests 3
 slot 0 need 6 have 8
 slot 1 need 9 have 8
@@ -420,7 +421,7 @@ over 1 need 9 have 8
 --
 diecast: overload: slot 1 needs 9, has 8
 ==
-run a.toml --host-ticks 4 --view journal|0|all
+run a.toml --host-ticks 4 --view journal|0|all|1|1
 version = 1
 factor = 1
 slot = [{ capacity = 8 }, { capacity = 8 }]
@@ -430,11 +431,10 @@ guest = [
   { name = 'c', image = 'jump', format = 'flat', ram = 4096, rate = 4 },
 ]
 --
-exit 1 after 1 reads
 --
 diecast: overload: slot 1 needs 9, has 8
 ==
-run a.toml --host-ticks 4 --view journal|0|all
+run a.toml --host-ticks 4 --view journal|0|all|1|1
 version = 1
 factor = 2
 slot = [{ capacity = 1 }]
@@ -442,11 +442,10 @@ guest = [
   { name = 'a', image = 'jump', format = 'flat', ram = 4096, rate = 3, slot = 0 },
 ]
 --
-exit 1 after 1 reads
 --
 diecast: overload: slot 0 needs 3, has 2
 ==
-plan a.toml|1|all
+plan a.toml|1|all|6|1
 version = 1
 factor = 1
 slot = [{ capacity = 8 }, { capacity = 8 }]
@@ -456,11 +455,10 @@ guest = [
   { name = 'c', image = 'jump', format = 'flat', ram = 4096, rate = 4 },
 ]
 --
-exit 6 after 1 reads
 pla--
 diecast: write fault
 ==
-plan a.toml|2|all
+plan a.toml|2|all|6|1
 version = 1
 factor = 1
 slot = [{ capacity = 8 }, { capacity = 8 }]
@@ -470,12 +468,11 @@ guest = [
   { name = 'c', image = 'jump', format = 'flat', ram = 4096, rate = 4 },
 ]
 --
-exit 6 after 1 reads
 plan factor 1 slots 2 guests 3
 slo--
 diecast: write fault
 ==
-plan a.toml|8|all
+plan a.toml|8|all|6|1
 version = 1
 factor = 1
 slot = [{ capacity = 8 }, { capacity = 8 }]
@@ -485,7 +482,6 @@ guest = [
   { name = 'c', image = 'jump', format = 'flat', ram = 4096, rate = 4 },
 ]
 --
-exit 6 after 1 reads
 plan factor 1 slots 2 guests 3
 slot 0 need 6 have 8
 slot 1 need 9 have 8
@@ -496,7 +492,7 @@ least 2 slot 1
 ove--
 diecast: write fault
 ==
-run a.toml --host-ticks 4 --view journal|3|all
+run a.toml --host-ticks 4 --view journal|3|all|6|2
 version = 1
 factor = 2
 slot = [{ capacity = 1 }]
@@ -504,67 +500,57 @@ guest = [
   { name = 'a', image = 'jump', format = 'flat', ram = 4096, rate = 2, slot = 0 },
 ]
 --
-exit 6 after 2 reads
 diecast 1 factor 2 slots 1 guests 1 host 4
 host 1
 slo--
 diecast: write fault
 ==
-run a.toml --host-ticks  --view journal|0|all
+run a.toml --host-ticks  --view journal|0|all|2|0
 --
-exit 2 after 0 reads
---
-diecast: usage: bad-number
-==
-run a.toml --host-ticks 04 --view journal|0|all
---
-exit 2 after 0 reads
 --
 diecast: usage: bad-number
 ==
-run a.toml --host-ticks 1000001 --view journal|0|all
+run a.toml --host-ticks 04 --view journal|0|all|2|0
 --
-exit 2 after 0 reads
 --
 diecast: usage: bad-number
 ==
-plan |0|all
+run a.toml --host-ticks 1000001 --view journal|0|all|2|0
 --
-exit 2 after 0 reads
+--
+diecast: usage: bad-number
+==
+plan |0|all|2|0
+--
 --
 diecast: usage: empty-name
 ==
-plan a.toml --view|0|all
+plan a.toml --view|0|all|2|0
 --
-exit 2 after 0 reads
---
-diecast: usage: not-words
-==
-run a.toml 4|0|all
---
-exit 2 after 0 reads
 --
 diecast: usage: not-words
 ==
-plan b.toml|0|all
+run a.toml 4|0|all|2|0
 --
-exit 5 after 1 reads
+--
+diecast: usage: not-words
+==
+plan b.toml|0|all|5|1
+--
 --
 diecast: read fault: experiment
 ==
-plan long|0|all
+plan long|0|all|4|1
 --
-exit 4 after 1 reads
 --
 diecast: too long: experiment
 ==
-plan a.toml|0|all
+plan a.toml|0|all|3|1
 --
-exit 3 after 1 reads
 --
 diecast: experiment: missing top 0 version
 ==
-plan a.toml|0|all
+plan a.toml|0|all|3|1
 version = 1
 factor = 3
 slot = [{ capacity = 2 }, { capacity = 0 }]
@@ -572,20 +558,18 @@ guest = [
   { name = 'a', image = 'jump', format = 'flat', ram = 4096, rate = 2, slot = 0 },
 ]
 --
-exit 3 after 1 reads
 --
 diecast: experiment: range slot 1 capacity
 ==
-run a.toml --host-ticks 4 --view journal|0|all
+run a.toml --host-ticks 4 --view journal|0|all|3|1
 version = 1
 factor = 2
 slot = [{ capacity = 1 }]
 --
-exit 3 after 1 reads
 --
 diecast: experiment: no-guest top 0 guest
 ==
-run a.toml --host-ticks 4 --view journal|0|all
+run a.toml --host-ticks 4 --view journal|0|all|3|1
 version = 1
 factor = 2
 slot = [{ capacity = 1 }]
@@ -593,11 +577,10 @@ guest = [
   { name = 'a', image = 'jump', format = 'flat', ram = 4096, rate = 2, slot = 0, zone = 1, area = 1 },
 ]
 --
-exit 3 after 1 reads
 --
 diecast: experiment: unknown guest 0 area
 ==
-run a.toml --host-ticks 4 --view journal|0|all
+run a.toml --host-ticks 4 --view journal|0|all|3|1
 version = 1
 factor = 2
 slot = [{ capacity = 1 }]
@@ -605,11 +588,10 @@ guest = [
   { name = 'a', image = 'jump', format = 'flat', ram = 5000, rate = 2, slot = 0 },
 ]
 --
-exit 3 after 1 reads
 --
 diecast: experiment: range guest 0 ram
 ==
-run a.toml --host-ticks 4 --view journal|0|all
+run a.toml --host-ticks 4 --view journal|0|all|3|1
 version = 1
 factor = 2
 slot = [{ capacity = 1 }]
@@ -617,11 +599,10 @@ guest = [
   { name = 'a', image = 'jump', format = 'flat', ram = 4096, rate = 2, slot = 0, nics = 1 },
 ]
 --
-exit 3 after 1 reads
 --
 diecast: experiment: not-built top 0 -
 ==
-run a.toml --host-ticks 4 --view journal|0|all
+run a.toml --host-ticks 4 --view journal|0|all|5|2
 version = 1
 factor = 2
 slot = [{ capacity = 1 }]
@@ -629,11 +610,10 @@ guest = [
   { name = 'a', image = 'lost', format = 'flat', ram = 4096, rate = 2, slot = 0 },
 ]
 --
-exit 5 after 2 reads
 --
 diecast: read fault: image 0
 ==
-run a.toml --host-ticks 4 --view journal|0|all
+run a.toml --host-ticks 4 --view journal|0|all|5|3
 version = 1
 factor = 1
 slot = [{ capacity = 2 }]
@@ -642,11 +622,10 @@ guest = [
   { name = 'b', image = 'lost', format = 'flat', ram = 4096, rate = 1, slot = 0 },
 ]
 --
-exit 5 after 3 reads
 --
 diecast: read fault: image 1
 ==
-run a.toml --host-ticks 4 --view journal|0|all
+run a.toml --host-ticks 4 --view journal|0|all|4|2
 version = 1
 factor = 2
 slot = [{ capacity = 1 }]
@@ -654,11 +633,10 @@ guest = [
   { name = 'a', image = 'long', format = 'flat', ram = 4096, rate = 2, slot = 0 },
 ]
 --
-exit 4 after 2 reads
 --
 diecast: too long: image 0
 ==
-run a.toml --host-ticks 4 --view journal|0|all
+run a.toml --host-ticks 4 --view journal|0|all|7|2
 version = 1
 factor = 2
 slot = [{ capacity = 1 }]
@@ -666,11 +644,10 @@ guest = [
   { name = 'a', image = 'full', format = 'flat', ram = 4096, rate = 2, slot = 0 },
 ]
 --
-exit 7 after 2 reads
 --
 diecast: out of memory
 ==
-run a.toml --host-ticks 4 --view journal|0|all
+run a.toml --host-ticks 4 --view journal|0|all|4|2
 version = 1
 factor = 2
 slot = [{ capacity = 1 }]
@@ -678,11 +655,10 @@ guest = [
   { name = 'a', image = 'more', format = 'flat', ram = 4096, rate = 2, slot = 0 },
 ]
 --
-exit 4 after 2 reads
 --
 diecast: image 0: too-long
 ==
-run a.toml --host-ticks 4 --view journal|0|all
+run a.toml --host-ticks 4 --view journal|0|all|4|2
 version = 1
 factor = 2
 slot = [{ capacity = 1 }]
@@ -690,11 +666,10 @@ guest = [
   { name = 'a', image = 'jump', ram = 4096, rate = 2, slot = 0 },
 ]
 --
-exit 4 after 2 reads
 --
 diecast: image 0: not-elf
 ==
-run a.toml --host-ticks 4 --view journal|0|all
+run a.toml --host-ticks 4 --view journal|0|all|4|2
 version = 1
 factor = 2
 slot = [{ capacity = 1 }]
@@ -702,11 +677,10 @@ guest = [
   { name = 'a', image = 'elf-3', ram = 4096, rate = 2, slot = 0 },
 ]
 --
-exit 4 after 2 reads
 --
 diecast: image 0: not-elf
 ==
-run a.toml --host-ticks 4 --view journal|0|all
+run a.toml --host-ticks 4 --view journal|0|all|4|2
 version = 1
 factor = 2
 slot = [{ capacity = 1 }]
@@ -714,11 +688,10 @@ guest = [
   { name = 'a', image = 'elf-51', ram = 4096, rate = 2, slot = 0 },
 ]
 --
-exit 4 after 2 reads
 --
 diecast: image 0: truncated
 ==
-run a.toml --host-ticks 4 --view journal|0|all
+run a.toml --host-ticks 4 --view journal|0|all|4|2
 version = 1
 factor = 2
 slot = [{ capacity = 1 }]
@@ -726,11 +699,10 @@ guest = [
   { name = 'a', image = 'elf-119', ram = 4096, rate = 2, slot = 0 },
 ]
 --
-exit 4 after 2 reads
 --
 diecast: image 0: bad-segment 1
 ==
-run a.toml --host-ticks 4 --view journal|0|all
+run a.toml --host-ticks 4 --view journal|0|all|4|2
 version = 1
 factor = 2
 slot = [{ capacity = 1 }]
@@ -738,11 +710,10 @@ guest = [
   { name = 'a', image = 'elf-outside', ram = 4096, rate = 2, slot = 0 },
 ]
 --
-exit 4 after 2 reads
 --
 diecast: image 0: outside-ram 1
 ==
-run a.toml --host-ticks 4 --view journal|0|all
+run a.toml --host-ticks 4 --view journal|0|all|4|2
 version = 1
 factor = 2
 slot = [{ capacity = 1 }]
@@ -750,7 +721,85 @@ guest = [
   { name = 'a', image = 'elf-entry', ram = 4096, rate = 2, slot = 0 },
 ]
 --
-exit 4 after 2 reads
 --
 diecast: image 0: bad-entry
+==
+run a.toml --host-ticks 1 --view journal|0|all|0|3
+version = 1
+factor = 1
+slot = [{ capacity = 1 }]
+guest = [{ name = 'a', image = 'jump', format = 'flat', ram = 4096, rate = 1 }]
+disk = [{ guest = 'a', sectors = 1, base = 1 }, { guest = 'a', sectors = 9, image = 'more', base = 1 }]
+--
+diecast 1 factor 1 slots 1 guests 1 host 1
+host 1
+slot 0
+run 0 units 1 done 1
+0 0 instr 80000000 0000006f
+end 1
+--
+==
+plan a.toml|0|all|0|1
+version = 1
+factor = 1
+slot = [{ capacity = 1 }]
+guest = [{ name = 'a', image = 'jump', format = 'flat', ram = 4096, rate = 1 }]
+disk = [{ guest = 'a', sectors = 1, image = 'lost', base = 1 }]
+--
+plan factor 1 slots 1 guests 1
+slot 0 need 1 have 1
+guest 0 a slot 0 rate 1
+least 1 slot 0
+fits
+--
+==
+run a.toml --host-ticks 1 --view journal|0|all|5|3
+version = 1
+factor = 1
+slot = [{ capacity = 1 }]
+guest = [{ name = 'a', image = 'jump', format = 'flat', ram = 4096, rate = 1 }]
+disk = [{ guest = 'a', sectors = 1, base = 1 }, { guest = 'a', sectors = 1, image = 'lost', base = 1 }]
+--
+--
+diecast: read fault: disk 1
+==
+run a.toml --host-ticks 1 --view journal|0|all|4|3
+version = 1
+factor = 1
+slot = [{ capacity = 1 }]
+guest = [{ name = 'a', image = 'jump', format = 'flat', ram = 4096, rate = 1 }]
+disk = [{ guest = 'a', sectors = 1, image = 'long', base = 1 }]
+--
+--
+diecast: too long: disk 0
+==
+run a.toml --host-ticks 1 --view journal|0|all|7|3
+version = 1
+factor = 1
+slot = [{ capacity = 1 }]
+guest = [{ name = 'a', image = 'jump', format = 'flat', ram = 4096, rate = 1 }]
+disk = [{ guest = 'a', sectors = 1, image = 'full', base = 1 }]
+--
+--
+diecast: out of memory
+==
+run a.toml --host-ticks 1 --view journal|0|all|4|3
+version = 1
+factor = 1
+slot = [{ capacity = 1 }]
+guest = [{ name = 'a', image = 'jump', format = 'flat', ram = 4096, rate = 1 }]
+disk = [{ guest = 'a', sectors = 8, image = 'more', base = 1 }, { guest = 'a', sectors = 1, image = 'lost', base = 1 }]
+--
+--
+diecast: disk 0: 4097 bytes, room 4096
+==
+run a.toml --host-ticks 1 --view journal|0|all|4|3
+version = 1
+factor = 1
+slot = [{ capacity = 2 }]
+guest = [{ name = 'a', image = 'jump', format = 'flat', ram = 4096, rate = 1 }, { name = 'b', image = 'more', format = 'flat', ram = 4096, rate = 1 }]
+disk = [{ guest = 'a', sectors = 1, image = 'lost', base = 1 }]
+--
+--
+diecast: image 1: too-long
 ";

@@ -1,11 +1,17 @@
 //! Boxes that are handed in.
+ghost use Rattle.std.specs.Prelude.{◌≡◌, All, map, IfOk};
+ghost use Rattle.dev_face.specs.States.{Blank};
+ghost use Rattle.dev_face.specs.declared.kind.Kind.TheVariants as kind;
+
 use super::counting::Counting;
 use super::owned;
 use super::watched::Watched;
 use crate::boxes::add;
 use crate::ending::code_of;
+use blk_dev::Blk;
 use clint_dev::Clint;
-use dev_face::{DevConfig, Device};
+use dev_face::{Device, Kind};
+use std::alloc::Global;
 use std::cell::Cell;
 use std::rc::Rc;
 use std::test::Fail;
@@ -13,59 +19,140 @@ use tb_io::MemSink;
 use tb_top::{Stock, diecast};
 use uart_dev::Uart;
 
-/// Two ticks of a guest that sends a byte in its first step but one.
-const TEXT: &str =
-    "version = 1\nfactor = 1\nslot = [{ capacity = 4 }]\nguest = [{ name = 'a', image = 'sends', format = 'flat', rate = 4 }]\n";
+/// A guest that sends a byte in its first step but one, and that has a disk.
+const TEXT: &str = "version = 1
+factor = 1
+slot = [{ capacity = 4 }]
+guest = [{ name = 'a', image = 'sends', format = 'flat', rate = 4 }]
+disk = [{ guest = 'a', sectors = 1, base = 1 }]
+";
 
-const WORDS: &str = "run a.toml --host-ticks 2 --view journal";
+/// The same where the image of the disk is absent.
+const LOST: &str = "version = 1
+factor = 1
+slot = [{ capacity = 4 }]
+guest = [{ name = 'a', image = 'sends', format = 'flat', rate = 4 }]
+disk = [{ guest = 'a', sectors = 1, image = 'lost', base = 1 }]
+";
+
+/// A list of one box.
+fn list_of(alloc: Global, device: Box<dyn Device>, kind: Kind) -> Result<Vec<Box<dyn Device>>, Fail>
+    requires { ⟦<Box<dyn Device> as Device>⟧.state device ≡ Blank kind }
+    ensures { IfOk result (λ list. All (λ s. s ≡ Blank kind) (map (⟦<Box<dyn Device> as Device>⟧.state) list.items)) }
+{
+    let mut list = Vec::new(alloc);
+    add(&mut list, device, kind)?;
+    Ok(list)
+}
+
+/// Whether a run of two ticks ends with this exit status and this message, where it is handed these boxes.
+fn ends_with(
+    alloc: Global,
+    text: &str,
+    clints: Vec<Box<dyn Device>>,
+    uarts: Vec<Box<dyn Device>>,
+    blks: Vec<Box<dyn Device>>,
+    code: u8,
+    line: &str,
+) -> Result<bool, Fail>
+    requires clints { All (λ s. s ≡ Blank kind.Clint) (map (⟦<Box<dyn Device> as Device>⟧.state) clints.items) }
+    requires uarts { All (λ s. s ≡ Blank kind.Uart) (map (⟦<Box<dyn Device> as Device>⟧.state) uarts.items) }
+    requires blks { All (λ s. s ≡ Blank kind.Blk) (map (⟦<Box<dyn Device> as Device>⟧.state) blks.items) }
+{
+    let words = owned(alloc, "run a.toml --host-ticks 2 --view journal")?;
+    let mut files = Watched::new(alloc, text)?;
+    let mut out = MemSink::new(alloc, 2000)?;
+    let mut msg = MemSink::new(alloc, 200)?;
+    let stock = Stock {
+        clints,
+        uarts,
+        blks,
+        nets: Vec::new(alloc),
+    };
+    let status = diecast(alloc, &words, &mut files, &mut out, &mut msg, stock);
+    Ok(code_of(&status) == code && msg.bytes() == line.as_bytes())
+}
+
+/// A list of one box of each kind, which counts its calls.
+fn counted_clint(alloc: Global, calls: &Rc<Cell<u64>>) -> Result<Vec<Box<dyn Device>>, Fail>
+    ensures { IfOk result (λ list. All (λ s. s ≡ Blank kind.Clint) (map (⟦<Box<dyn Device> as Device>⟧.state) list.items)) }
+{
+    let clint = Box::new(alloc, Counting::new(Clint::new(alloc), calls.clone()?))?;
+    list_of(alloc, clint, Kind::Clint)
+}
+
+fn counted_uart(alloc: Global, calls: &Rc<Cell<u64>>) -> Result<Vec<Box<dyn Device>>, Fail>
+    ensures { IfOk result (λ list. All (λ s. s ≡ Blank kind.Uart) (map (⟦<Box<dyn Device> as Device>⟧.state) list.items)) }
+{
+    let uart = Box::new(alloc, Counting::new(Uart::new(alloc), calls.clone()?))?;
+    list_of(alloc, uart, Kind::Uart)
+}
+
+fn counted_blk(alloc: Global, calls: &Rc<Cell<u64>>) -> Result<Vec<Box<dyn Device>>, Fail>
+    ensures { IfOk result (λ list. All (λ s. s ≡ Blank kind.Blk) (map (⟦<Box<dyn Device> as Device>⟧.state) list.items)) }
+{
+    let blk = Box::new(alloc, Counting::new(Blk::new(alloc), calls.clone()?))?;
+    list_of(alloc, blk, Kind::Blk)
+}
 
 /// Boxes that are handed in begin and end each tick once, and are asked for their lines when it
 /// begins and after a store to a device alone.
 #[test]
 fn boxes_that_are_handed_in_are_called(rt: HostRuntime) -> Result<(), Fail> {
     let alloc = rt.alloc();
-    let words = owned(alloc, WORDS)?;
-    let mut files = Watched::new(alloc, TEXT)?;
-    let mut out = MemSink::new(alloc, 2000)?;
-    let mut msg = MemSink::new(alloc, 200)?;
-    let clint_calls = Rc::new(alloc, Cell::new(0))?;
-    let uart_calls = Rc::new(alloc, Cell::new(0))?;
-    let clint = Counting::new(Clint::new(alloc), clint_calls.clone()?);
-    let clint: Box<dyn Device> = Box::new(alloc, clint)?;
-    let uart = Counting::new(Uart::new(alloc), uart_calls.clone()?);
-    let uart: Box<dyn Device> = Box::new(alloc, uart)?;
-    let mut clints = Vec::new(alloc);
-    let mut uarts = Vec::new(alloc);
-    add(&mut clints, clint, &DevConfig::Clint)?;
-    add(&mut uarts, uart, &DevConfig::Uart)?;
-    let stock = Stock { clints, uarts };
-    let status = diecast(alloc, &words, &mut files, &mut out, &mut msg, stock);
-    assert_eq!(rt; code_of(&status), 0);
-    assert_eq!(rt; clint_calls.get(), 322);
-    assert_eq!(rt; uart_calls.get(), 10_322);
+    let clint = Rc::new(alloc, Cell::new(0))?;
+    let uart = Rc::new(alloc, Cell::new(0))?;
+    let blk = Rc::new(alloc, Cell::new(0))?;
+    let clints = counted_clint(alloc, &clint)?;
+    let uarts = counted_uart(alloc, &uart)?;
+    let blks = counted_blk(alloc, &blk)?;
+    let done = ends_with(alloc, TEXT, clints, uarts, blks, 0, "")?;
+    let calls = (clint.get(), uart.get(), blk.get());
+    assert!(rt; done);
+    assert_eq!(rt; calls, (322, 10_322, 322));
+    Ok(())
+}
+
+/// The first kind is told of which there are too few.
+#[test]
+fn a_stock_without_uarts_and_disks(rt: HostRuntime) -> Result<(), Fail> {
+    let alloc = rt.alloc();
+    let clint = Box::new(alloc, Clint::new(alloc))?;
+    let clints = list_of(alloc, clint, Kind::Clint)?;
+    let line = "diecast: stock: uart wanted 1, had 0\n";
+    let short = ends_with(
+        alloc,
+        TEXT,
+        clints,
+        Vec::new(alloc),
+        Vec::new(alloc),
+        4,
+        line,
+    )?;
+    assert!(rt; short);
     Ok(())
 }
 
 #[test]
-fn a_stock_without_uarts(rt: HostRuntime) -> Result<(), Fail> {
+fn a_stock_without_disks(rt: HostRuntime) -> Result<(), Fail> {
     let alloc = rt.alloc();
-    let words = owned(alloc, WORDS)?;
-    let mut files = Watched::new(alloc, TEXT)?;
-    let mut out = MemSink::new(alloc, 2000)?;
-    let mut msg = MemSink::new(alloc, 200)?;
-    let clint: Box<dyn Device> = Box::new(alloc, Clint::new(alloc))?;
-    let mut clints = Vec::new(alloc);
-    add(&mut clints, clint, &DevConfig::Clint)?;
-    let stock = Stock {
-        clints,
-        uarts: Vec::new(alloc),
-    };
-    let status = diecast(alloc, &words, &mut files, &mut out, &mut msg, stock);
-    assert_eq!(rt; code_of(&status), 4);
-    assert_eq!(rt; out.bytes(), b"".as_slice());
-    assert_eq!(rt;
-        msg.bytes(),
-        b"diecast: stock: uart wanted 1, had 0\n".as_slice()
-    );
+    let clint = Box::new(alloc, Clint::new(alloc))?;
+    let clints = list_of(alloc, clint, Kind::Clint)?;
+    let uart = Box::new(alloc, Uart::new(alloc))?;
+    let uarts = list_of(alloc, uart, Kind::Uart)?;
+    let line = "diecast: stock: blk wanted 1, had 0\n";
+    let short = ends_with(alloc, TEXT, clints, uarts, Vec::new(alloc), 4, line)?;
+    assert!(rt; short);
+    Ok(())
+}
+
+/// What is wrong with a disk is told first.
+#[test]
+fn a_lost_disk_and_no_boxes(rt: HostRuntime) -> Result<(), Fail> {
+    let alloc = rt.alloc();
+    let none = Vec::new(alloc);
+    let line = "diecast: read fault: disk 0\n";
+    let lost = ends_with(alloc, LOST, none, Vec::new(alloc), Vec::new(alloc), 5, line)?;
+    assert!(rt; lost);
     Ok(())
 }

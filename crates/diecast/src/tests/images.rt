@@ -34,17 +34,24 @@ const ELF: &[u8; 120] =
     \x03\0\0\x70\0\0\0\0\0\0\0\0\0\0\0\0\0\0\0\0\0\0\0\0\0\0\0\0\0\0\0\0\
     \x01\0\0\0\x74\0\0\0\0\0\0\0\0\0\0\x80\x04\0\0\0\0\x10\0\0\0\0\0\0\0\0\0\0\x6f\0\0\0";
 
-/// Adds each program under a name of its own.
+/// Each program under a name of its own.
+const IMAGES: [(&str, &[u8]); 8] = [
+    ("jump", JUMP),
+    ("wait", WAIT),
+    ("misaligned", MISALIGNED),
+    ("zeros", b"\0\0\0\0"),
+    ("off", OFF),
+    ("sends", SENDS),
+    ("timer", TIMER),
+    ("alarm", ALARM),
+];
+
+/// Adds each program, and a page of zeros and one zero more.
 pub(crate) fn add_images(files: &mut MemFiles) -> Result<(), Fail> {
-    files.add("jump", JUMP)?;
-    files.add("wait", WAIT)?;
-    files.add("misaligned", MISALIGNED)?;
-    files.add("zeros", &[0; 4])?;
+    for (name, bytes) in IMAGES {
+        files.add(name, bytes)?;
+    }
     files.add("more", &[0; 4097])?;
-    files.add("off", OFF)?;
-    files.add("sends", SENDS)?;
-    files.add("timer", TIMER)?;
-    files.add("alarm", ALARM)?;
     Ok(())
 }
 
