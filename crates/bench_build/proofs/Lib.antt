@@ -1,3 +1,6 @@
+pub mod GuestDisks
+pub mod KindLists
 pub mod Loads
-pub mod Openings
+pub mod Opened
 pub mod Popped
+pub mod Standing

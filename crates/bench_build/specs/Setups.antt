@@ -1,32 +1,54 @@
 -- The setup of an experiment: what its synchronous system is made of. It knows no slot and no factor.
-use Rattle.std.specs.Prelude.{ℕ, List, [], ◌∷◌, map, length, slice_index_or, Result, Ok, Err}
+use Rattle.std.specs.Prelude.{ℕ, ◌+◌, ◌==◌, if◌then◌else◌, List, [], ◌∷◌, map, length, slice_get, Option, Some, None, Result, Ok, Err}
 use Rattle.std.specs.List.{flat_map}
 use Rattle.exp_file.specs.declared.experiment.Experiment.{Experiment}
 use Rattle.exp_file.specs.declared.guest_spec.GuestSpec.{GuestSpec}
+use Rattle.exp_file.specs.declared.disk_spec.DiskSpec.{DiskSpec}
 use Rattle.exp_file.specs.declared.slot_spec.SlotSpec.{SlotSpec}
 use Rattle.exp_file.specs.declared.link_spec.LinkSpec.{LinkSpec}
+use Rattle.disk_model.specs.declared.disk_params.DiskParams.{DiskParams}
+use Rattle.dev_face.specs.declared.config.DevConfig.{DevConfig}
+use Rattle.dev_face.specs.declared.config.DevConfig.TheVariants as config
+use Rattle.dev_face.specs.States as states
 use Rattle.lookahead_core.specs.Synchronous.{Setup}
 use Rattle.lookahead_core.specs.declared.wire.Wire.{Wire}
 use Rattle.guest_machine.specs.Tick.{MachineState, machine_motion}
-use Rattle.guest_machine.specs.Opening.{opening, opening_devices}
+use Rattle.guest_machine.specs.Opening.{opening}
 use Rattle.slot_sched.specs.Legal.{Rules}
 use Rattle.slot_sched.specs.Schedule.{Plan, rules}
 use Rattle.bench_build.specs.Images.{image}
+use Rattle.bench_build.specs.Inputs.{Inputs}
 use Rattle.bench_build.specs.declared.image_fault.ImageFault.{ImageFault}
 use Rattle.bench_build.specs.declared.loaded.Loaded.{Loaded}
-use Rattle.bench_build.specs.declared.shape.Shape.{Shape}
 
--- the opening machine of a guest with this rate and this image. No bench is built with an image that is refused, so
--- what stands for one is never asked
-abbrev pub opens : ℕ → Result Loaded ImageFault → MachineState
-opens rate (Ok l) = opening rate l.entry l.ram opening_devices
-opens rate (Err fault) = opening rate 0 [] opening_devices
+-- a disk with what it holds at first and its number on its guest, which is its virtio slot too
+abbrev pub params_of : DiskSpec → DiskParams
+params_of d = record { base = d.base; seek_num = d.seek_num; seek_den = d.seek_den; per_sector = d.per_sector }
 
--- the opening machines of guests, each with its image
-abbrev pub machines_of : List GuestSpec → List (List ℕ) → List MachineState
-machines_of gs [] = []
-machines_of [] (b ∷ images) = []
-machines_of (g ∷ gs) (b ∷ images) = opens g.rate (image g.format g.ram b) ∷ machines_of gs images
+abbrev pub disk_config : DiskSpec → List ℕ → ℕ → DevConfig
+disk_config d content n = config.Blk d.sectors (params_of d) content n n
+
+-- the disks of guest g in the order of the file, numbered from n on
+abbrev pub disk_configs : ℕ → ℕ → List DiskSpec → List (List ℕ) → List DevConfig
+disk_configs g n [] contents = []
+disk_configs g n (d ∷ ds) [] = []
+disk_configs g n (d ∷ ds) (b ∷ contents) = if d.guest == g then disk_config d b n ∷ disk_configs g (n + 1) ds contents else disk_configs g n ds contents
+
+-- the devices of a guest: a Clint and a Uart, then its disks
+abbrev pub guest_configs : Experiment → Inputs → ℕ → List DevConfig
+guest_configs e i g = config.Clint ∷ config.Uart ∷ disk_configs g 0 e.disks.items i.disks
+
+-- the opening machine of a guest with this rate, this image and these devices. No bench is built with an image that is
+-- refused, so what stands for one is never asked
+abbrev pub opens : ℕ → Result Loaded ImageFault → List states.DevState → MachineState
+opens rate (Ok l) devices = opening rate l.entry l.ram devices
+opens rate (Err fault) devices = opening rate 0 [] devices
+
+-- the same of the guest with this number, whose image this is; beyond the last guest nothing is asked either
+abbrev pub machine_of : Option GuestSpec → Option (List ℕ) → List states.DevState → MachineState
+machine_of (Some g) (Some b) devices = opens g.rate (image g.format g.ram b) devices
+machine_of (Some g) None devices = opening g.rate 0 [] devices
+machine_of None b devices = opening 1 0 [] devices
 
 -- a link is two wires, one in each direction
 abbrev pub wires_of : LinkSpec → List Wire
@@ -34,11 +56,11 @@ wires_of l =
     record { from = l.a; from_nic = l.a_nic; to = l.b; to_nic = l.b_nic; delay = l.delay }
     ∷ record { from = l.b; from_nic = l.b_nic; to = l.a; to_nic = l.a_nic; delay = l.delay } ∷ []
 
--- the setup of an experiment whose guests have these images
-abbrev pub setup : Experiment → List (List ℕ) → Setup MachineState
-setup e images = record {
+-- the setup of an experiment for which this was read
+abbrev pub setup : Experiment → Inputs → Setup MachineState
+setup e i = record {
   count = length e.guests.items;
-  opening = λ g. slice_index_or (machines_of e.guests.items images) g (opening 1 0 [] opening_devices);
+  opening = λ g. machine_of (slice_get e.guests.items g) (slice_get i.images g) (map states.opening (guest_configs e i g));
   wires = flat_map wires_of e.links.items;
 }
 
@@ -50,9 +72,5 @@ abbrev pub plan : Experiment → List ℕ → ℕ → Plan
 plan e slots host_ticks = record { homes = slots; capacities = map capacity_of e.slots.items; factor = e.factor; host_ticks = host_ticks }
 
 -- what the journal of a run is judged by
-abbrev pub run_rules : Experiment → List ℕ → List (List ℕ) → ℕ → Rules
-run_rules e slots images host_ticks = rules machine_motion (setup e images) (plan e slots host_ticks)
-
--- what of a guest its machine is made of
-abbrev pub shape_of : GuestSpec → Shape
-shape_of g = record { format = g.format; ram = g.ram; rate = g.rate }
+abbrev pub run_rules : Experiment → List ℕ → Inputs → ℕ → Rules
+run_rules e slots i host_ticks = rules machine_motion (setup e i) (plan e slots host_ticks)

@@ -8,7 +8,9 @@ use dev_face::Kind;
 pub enum BuildFault {
     /// The image of this guest is refused.
     Image { guest: u32, fault: ImageFault },
-    /// There are fewer devices of a kind than guests.
+    /// What this disk holds at first is longer than the disk. Both lengths are in bytes.
+    DiskSize { disk: u32, len: u64, room: u64 },
+    /// There are fewer devices of a kind than the experiment needs.
     NoDevice { kind: Kind, wanted: u32, had: u32 },
     NoMemory,
 }

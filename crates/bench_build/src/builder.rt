@@ -1,28 +1,27 @@
 //! The builder of a bench.
-ghost use Rattle.std.specs.Prelude.{◌≡◌, ℕ, ◌+◌, ◌*◌, ◌<◌, ◌≤◌, ◌%◌, List, [], ◌∷◌, ◌++◌, length, slice_get, slice_index, Some, true, false, OnOk, OnErr, IfOk, IfErr, All, map};
-ghost use Rattle.dev_face.specs.States.{IsBlankFor};
-ghost use Rattle.dev_face.specs.declared.config.DevConfig.TheVariants as config;
+ghost use Rattle.std.specs.Prelude.{◌≡◌, ℕ, ◌+◌, ◌<◌, ◌≤◌, List, length, slice_get, Some, true, false, OnOk, OnErr, IfOk, IfErr};
+ghost use Rattle.std.specs.Option.{option_copied};
+ghost use Rattle.std.proofs.Props.{props};
 ghost use Rattle.exp_file.specs.Reading.{is_built};
 ghost use Rattle.exp_file.specs.WellFormed.{IsWellFormed};
+ghost use Rattle.exp_file.specs.declared.disk_spec.DiskSpec.{DiskSpec};
 ghost use Rattle.exp_file.specs.declared.experiment.Experiment.{Experiment};
 ghost use Rattle.exp_file.specs.declared.guest_spec.GuestSpec.{GuestSpec};
 ghost use Rattle.host_plan.specs.Fits.{IsPlacement, Fits};
 ghost use Rattle.slot_sched.specs.Legal.{start};
-ghost use Rattle.slot_sched.specs.Schedule.{sum_at};
 ghost use Rattle.slot_sched.specs.BenchWords.{BenchStands, IsAtTick, plan_of, ticks_made, bench_failed, members_of};
-ghost use Rattle.bench_build.specs.declared.shape.Shape.{Shape};
-ghost use Rattle.bench_build.specs.Answers.{ImageAnswers};
+ghost use Rattle.bench_build.specs.Answers.{Fills, ImageAnswers, DiskAnswers};
+ghost use Rattle.bench_build.specs.Inputs.{Inputs, no_inputs, with_image, with_disk, content_of};
 ghost use Rattle.bench_build.specs.Setups.{setup, plan};
-ghost use Rattle.bench_build.specs.Shapes.{IsShape, rate_at};
-ghost use Rattle.bench_build.specs.Stocks.{Suffices, IsUnbuilt};
+ghost use Rattle.bench_build.specs.Stocks.{IsStock, counts, items_of, Suffices, IsUnbuilt};
 
 use crate::build_fault::BuildFault;
-use crate::devices::check_stock;
+use crate::capacities::capacities_of;
+use crate::disks::content_for;
 use crate::images::loaded_for;
 use crate::loaded::Loaded;
-use crate::machines::machines_for;
-use crate::plan::{capacities_of, shapes_of};
-use crate::shape::Shape;
+use crate::machines::all_machines;
+use crate::needs::check_stock;
 use dev_face::Device;
 use exp_file::Experiment;
 use guest_machine::Machine;
@@ -30,78 +29,68 @@ use host_plan::Placement;
 use lookahead_core::Core;
 use slot_sched::Bench;
 use std::alloc::Global;
-use tb_base::NoMemory;
+use tb_base::{Bytes, NoMemory};
 
-/// Makes a bench of an experiment that is placed: image by image, in the order of the guests.
+/// Makes a bench of an experiment that is placed: image by image, in the order of the guests, and
+/// disk by disk, in the order of the file.
 #[derive(Drop)]
-pub struct Builder {
+pub struct Builder<'a> {
     alloc: Global,
-    shapes: Vec<Shape>,
-    homes: Vec<u32>,
-    capacities: Vec<u64>,
-    factor: u64,
+    experiment: &'a Experiment,
+    placement: &'a Placement,
     loaded: Vec<Loaded>,
-    ghost some: { 1 ≤ length shapes.items },
-    ghost few: { length shapes.items ≤ 32 },
-    ghost few_slots: { length capacities.items ≤ 32 },
-    ghost shaped: { (g : ℕ) (s : Shape) → slice_get shapes.items g ≡ Some s → IsShape s },
-    ghost homed: { length homes.items ≡ length shapes.items },
-    ghost slots: { (g : ℕ) → g < length homes.items → slice_index homes.items g < length capacities.items },
-    ghost small: { (s : ℕ) → slice_index capacities.items s ≤ 1000000 },
-    ghost factor_in_range: { (1 ≤ factor) × (factor ≤ 1000) },
-    ghost fit: { (s : ℕ) → s < length capacities.items → sum_at (slice_index homes.items) s (rate_at shapes.items) (length shapes.items) ≤ slice_index capacities.items s * factor },
-    ghost begun: { length loaded.items ≤ length shapes.items },
+    contents: Vec<Bytes>,
+    ghost well_formed: { IsWellFormed experiment.now } by { Prim.hlevel props },
+    ghost placed: { IsPlacement experiment.now placement.now.slots.items } by { Prim.hlevel props },
+    ghost fits: { Fits experiment.now placement.now.slots.items },
+    ghost begun: { length loaded.items ≤ length experiment.now.guests.items },
+    ghost few: { length contents.items ≤ length experiment.now.disks.items },
+    ghost filled: { (j : ℕ) (d : DiskSpec) (b : List ℕ) → slice_get experiment.now.disks.items j ≡ Some d → slice_get contents.items j ≡ Some b → Fills d b },
 }
 
-impl Builder {
-    ghost use Rattle.bench_build.specs.Building.{IsBuilding, wanted, added};
+impl<'a> Builder<'a> {
+    ghost use Rattle.bench_build.specs.Building.{IsBuilding, images_wanted, images_added, disks_wanted, disks_added};
 
     /// A builder of an experiment that is placed where it fits, and that asks for nothing that is
-    /// not built.
-    pub fn new(alloc: Global, e: &Experiment, p: &Placement) -> Result<Builder, NoMemory>
+    /// not built. It takes no memory.
+    pub fn new(alloc: Global, e: &'a Experiment, p: &'a Placement) -> Result<Builder<'a>, NoMemory>
         requires well_formed { IsWellFormed e.now }
         requires built { is_built e.now ≡ true }
         requires placement { IsPlacement e.now p.now.slots.items }
         requires fits { Fits e.now p.now.slots.items }
-        ensures building { IfOk result (λ b. IsBuilding e.now p.now.slots.items [] b) }
-        ensures wanted { IfOk result (λ b. wanted b ≡ length e.now.guests.items) }
-        ensures added { IfOk result (λ b. added b ≡ 0) }
+        ensures building { IfOk result (λ b. IsBuilding e.now p.now.slots.items no_inputs b) }
+        ensures images_wanted { IfOk result (λ b. images_wanted b ≡ length e.now.guests.items) }
+        ensures disks_wanted { IfOk result (λ b. disks_wanted b ≡ length e.now.disks.items) }
+        ensures images_added { IfOk result (λ b. images_added b ≡ 0) }
+        ensures disks_added { IfOk result (λ b. disks_added b ≡ 0) }
     {
-        let shapes = shapes_of(alloc, e.guests.as_slice())?;
-        let capacities = capacities_of(alloc, e.slots.as_slice())?;
-        let homes = match p.slots.as_slice().to_vec(alloc) {
-            Ok(homes) => homes,
-            Err(_) => return Err(NoMemory),
-        };
         Ok(Builder {
             alloc,
-            shapes,
-            homes,
-            capacities,
-            factor: e.factor,
+            experiment: e,
+            placement: p,
             loaded: Vec::new(alloc),
+            contents: Vec::new(alloc),
         })
     }
 
     /// Takes the image of the next guest. It is refused with the first fault that it has in the
     /// guest's format and RAM. A refusal leaves the builder as it was.
     pub fn add_image(&mut self, bytes: &[u8]) -> Result<(), BuildFault>
-        requires { added self.old < wanted self.old }
-        ensures building { OnOk result ((e : Experiment) (slots : List ℕ) (images : List (List ℕ)) →
-            IsBuilding e slots images self.old → IsBuilding e slots (images ++ bytes.now ∷ []) self.new) }
-        ensures kept { OnErr result ((e : Experiment) (slots : List ℕ) (images : List (List ℕ)) →
-            IsBuilding e slots images self.old → IsBuilding e slots images self.new) }
-        ensures answer { (e : Experiment) (slots : List ℕ) (images : List (List ℕ)) (g : GuestSpec) →
-            IsBuilding e slots images self.old → slice_get e.guests.items (length images) ≡ Some g → ImageAnswers (length images) g bytes.now result }
-        ensures wanted { wanted self.new ≡ wanted self.old }
-        ensures added { OnOk result (added self.new ≡ added self.old + 1) }
+        requires { images_added self.old < images_wanted self.old }
+        ensures building { OnOk result ((e : Experiment) (slots : List ℕ) (i : Inputs) →
+            IsBuilding e slots i self.old → IsBuilding e slots (with_image i bytes.now) self.new) }
+        ensures kept { OnErr result ((e : Experiment) (slots : List ℕ) (i : Inputs) →
+            IsBuilding e slots i self.old → IsBuilding e slots i self.new) }
+        ensures answer { (e : Experiment) (slots : List ℕ) (i : Inputs) (g : GuestSpec) →
+            IsBuilding e slots i self.old → slice_get e.guests.items (length i.images) ≡ Some g → ImageAnswers (length i.images) g bytes.now result }
+        ensures images_wanted { images_wanted self.new ≡ images_wanted self.old }
+        ensures disks_wanted { disks_wanted self.new ≡ disks_wanted self.old }
+        ensures images_added { OnOk result (images_added self.new ≡ images_added self.old + 1) }
+        ensures disks_added { disks_added self.new ≡ disks_added self.old }
     {
         let index = self.loaded.len();
-        let shape = self.shapes[index];
-        let loaded = match loaded_for(self.alloc, index as u32, shape, bytes) {
-            Ok(loaded) => loaded,
-            Err(fault) => return Err(fault),
-        };
+        let guests = self.experiment.guests.as_slice();
+        let loaded = loaded_for(self.alloc, index as u32, &guests[index], bytes)?;
         match self.loaded.push(loaded) {
             Ok(()) => (),
             Err(_) => return Err(BuildFault::NoMemory),
@@ -109,40 +98,61 @@ impl Builder {
         Ok(())
     }
 
-    /// The bench, once all images were taken. Each guest gets a blank Clint and a blank Uart. It stands
-    /// at the opening of the experiment with these images, before its first host tick. It is refused
-    /// where there are fewer devices of a kind than guests, Clints first.
-    pub fn finish<D: Device>(
-        self,
-        clints: Vec<D>,
-        uarts: Vec<D>,
-    ) -> Result<Bench<Machine<D>>, BuildFault>
-        requires all { added self ≡ wanted self }
-        requires clints { All (IsBlankFor config.Clint) (map D.state clints.items) }
-        requires uarts { All (IsBlankFor config.Uart) (map D.state uarts.items) }
-        ensures stands { IfOk result (λ bench. (e : Experiment) (slots : List ℕ) (images : List (List ℕ)) (n : ℕ) → IsBuilding e slots images self →
-            BenchStands (setup e images) bench n × IsAtTick (setup e images) bench n start) }
-        ensures plan { IfOk result (λ bench. (e : Experiment) (slots : List ℕ) (images : List (List ℕ)) (n : ℕ) → IsBuilding e slots images self →
+    /// Takes what the next disk holds at first, which zeros follow; without content it is all zeros.
+    /// What is longer than the disk is refused. A refusal leaves the builder as it was.
+    pub fn add_disk(&mut self, content: Option<&[u8]>) -> Result<(), BuildFault>
+        requires { disks_added self.old < disks_wanted self.old }
+        ensures building { OnOk result ((e : Experiment) (slots : List ℕ) (i : Inputs) →
+            IsBuilding e slots i self.old → IsBuilding e slots (with_disk i (content_of (option_copied content.entry))) self.new) }
+        ensures kept { OnErr result ((e : Experiment) (slots : List ℕ) (i : Inputs) →
+            IsBuilding e slots i self.old → IsBuilding e slots i self.new) }
+        ensures answer { (e : Experiment) (slots : List ℕ) (i : Inputs) (d : DiskSpec) →
+            IsBuilding e slots i self.old → slice_get e.disks.items (length i.disks) ≡ Some d → DiskAnswers (length i.disks) d (content_of (option_copied content.entry)) result }
+        ensures images_wanted { images_wanted self.new ≡ images_wanted self.old }
+        ensures disks_wanted { disks_wanted self.new ≡ disks_wanted self.old }
+        ensures images_added { images_added self.new ≡ images_added self.old }
+        ensures disks_added { OnOk result (disks_added self.new ≡ disks_added self.old + 1) }
+    {
+        let index = self.contents.len();
+        let disks = self.experiment.disks.as_slice();
+        let kept = content_for(self.alloc, index as u32, &disks[index], content)?;
+        match self.contents.push(kept) {
+            Ok(()) => (),
+            Err(_) => return Err(BuildFault::NoMemory),
+        }
+        Ok(())
+    }
+
+    /// The bench, once all images and disks were taken. Each guest gets a Clint, a Uart and its disks.
+    /// The bench stands at the opening of the experiment with what was taken, before its first host
+    /// tick. It is refused with the first kind of which there are too few devices; `stock` has a list
+    /// for each kind, in their order.
+    pub fn finish<D: Device>(self, stock: [Vec<D>; 4]) -> Result<Bench<Machine<D>>, BuildFault>
+        requires images { images_added self ≡ images_wanted self }
+        requires disks { disks_added self ≡ disks_wanted self }
+        requires stock { IsStock D.state (items_of stock) }
+        ensures stands { IfOk result (λ bench. (e : Experiment) (slots : List ℕ) (i : Inputs) (n : ℕ) → IsBuilding e slots i self.entry →
+            BenchStands (setup e i) bench n × IsAtTick (setup e i) bench n start) }
+        ensures plan { IfOk result (λ bench. (e : Experiment) (slots : List ℕ) (i : Inputs) (n : ℕ) → IsBuilding e slots i self.entry →
             plan_of bench n ≡ plan e slots n) }
         ensures going { IfOk result (λ bench. bench_failed bench ≡ false) }
         ensures made { IfOk result (λ bench. ticks_made bench ≡ 0) }
-        ensures count { IfOk result (λ bench. members_of bench ≡ wanted self) }
-        ensures stock { OnOk result (Suffices (wanted self) (length clints.items) (length uarts.items)) }
-        ensures fault { IfErr result (IsUnbuilt (wanted self) (length clints.items) (length uarts.items)) }
+        ensures count { IfOk result (λ bench. members_of bench ≡ images_wanted self.entry) }
+        ensures stock { OnOk result ((e : Experiment) (slots : List ℕ) (i : Inputs) → IsBuilding e slots i self.entry →
+            Suffices e (counts (items_of stock))) }
+        ensures fault { IfErr result (λ fault. (e : Experiment) (slots : List ℕ) (i : Inputs) → IsBuilding e slots i self.entry →
+            IsUnbuilt e (counts (items_of stock)) fault) }
     {
         let Builder {
             alloc,
-            shapes,
-            homes,
-            capacities,
-            factor,
+            experiment,
+            placement,
             loaded,
+            contents,
         } = self;
-        match check_stock(shapes.len(), clints.len(), uarts.len()) {
-            Ok(()) => (),
-            Err(fault) => return Err(fault),
-        }
-        let machines = match machines_for(alloc, &shapes, loaded, clints, uarts) {
+        let mut stock = stock;
+        check_stock(experiment, &stock)?;
+        let machines = match all_machines(alloc, experiment, loaded, contents, &mut stock) {
             Ok(machines) => machines,
             Err(_) => return Err(BuildFault::NoMemory),
         };
@@ -150,7 +160,12 @@ impl Builder {
             Ok(core) => core,
             Err(_) => return Err(BuildFault::NoMemory),
         };
-        match Bench::new(alloc, core, &homes, &capacities, factor) {
+        let capacities = match capacities_of(alloc, experiment.slots.as_slice()) {
+            Ok(capacities) => capacities,
+            Err(_) => return Err(BuildFault::NoMemory),
+        };
+        let homes = placement.slots.as_slice();
+        match Bench::new(alloc, core, homes, &capacities, experiment.factor) {
             Ok(bench) => Ok(bench),
             Err(_) => Err(BuildFault::NoMemory),
         }

@@ -1,47 +1,21 @@
-//! The devices of a guest.
-ghost use Rattle.std.specs.Prelude.{◌≡◌, ℕ, ◌+◌, ◌∷◌, [], ◌≤◌, ◌<◌, ◌^◌, All, map, length, IfOk, IfErr, OnOk, MatchResult};
+//! Devices taken of a stock.
+ghost use Rattle.std.specs.Prelude.{◌≡◌, ℕ, ◌+◌, ◌≤◌, ◌++◌, All, map, length, IfOk, OnOk};
 ghost use Rattle.dev_face.specs.States.{IsBlankFor, IsInLimits, opening};
-ghost use Rattle.dev_face.specs.declared.config.DevConfig.TheVariants as config;
-ghost use Rattle.guest_machine.specs.Opening.{opening_devices};
-ghost use Rattle.bench_build.specs.Stocks.{Suffices, IsShort};
+ghost use Rattle.dev_face.specs.declared.kind.Kind.{Kind};
+ghost use Rattle.bench_build.specs.Stocks.{IsStock, counts, items_of};
+ghost use Rattle.bench_build.specs.Takings.{number_for, with_base};
 
-use crate::build_fault::BuildFault;
-use dev_face::{DevConfig, Device, Kind};
+use crate::kinds::{kind_of, rank};
+use dev_face::{DevConfig, Device};
 use std::alloc::Global;
 use tb_base::NoMemory;
-
-/// Fewer devices of a kind than guests.
-fn no_device(kind: Kind, guests: usize, had: usize) -> BuildFault
-    requires { (guests < 2 ^ 32) × (had < guests) }
-    ensures { result ≡ BuildFault.NoDevice kind guests had }
-{
-    BuildFault::NoDevice {
-        kind,
-        wanted: guests as u32,
-        had: had as u32,
-    }
-}
-
-/// Whether there is a Clint and a Uart for each guest.
-pub(crate) fn check_stock(guests: usize, clints: usize, uarts: usize) -> Result<(), BuildFault>
-    requires { guests < 2 ^ 32 }
-    ensures { MatchResult result (λ _. Suffices guests clints uarts) (IsShort guests clints uarts) }
-{
-    if clints < guests {
-        Err(no_device(Kind::Clint, guests, clints))
-    } else if uarts < guests {
-        Err(no_device(Kind::Uart, guests, uarts))
-    } else {
-        Ok(())
-    }
-}
 
 /// Sets up the last device of a list.
 fn take_one<D: Device>(list: &mut Vec<D>, config: &DevConfig) -> Result<D, NoMemory>
     requires some { 1 ≤ length list.old.items }
     requires blank { All (IsBlankFor config.now) (map D.state list.old.items) }
     requires limits { IsInLimits config.now }
-    ensures rest { All (IsBlankFor config.now) (map D.state list.new.items) }
+    ensures rest { OnOk result (All (IsBlankFor config.now) (map D.state list.new.items)) }
     ensures count { OnOk result (length list.old.items ≡ length list.new.items + 1) }
     ensures opened { IfOk result (λ d. D.state d ≡ opening config.now) }
 {
@@ -56,30 +30,48 @@ fn take_one<D: Device>(list: &mut Vec<D>, config: &DevConfig) -> Result<D, NoMem
     }
 }
 
-/// The devices of a guest: one of each list, set up.
+/// Takes a device of the list of each configuration's kind, sets it up and puts it behind the others.
+fn take_each<D: Device>(
+    configs: &[DevConfig],
+    stock: &mut [Vec<D>],
+    devices: &mut Vec<D>,
+) -> Result<(), NoMemory>
+    requires one_each { length stock.old ≡ 4 }
+    requires limits { All IsInLimits configs.now }
+    requires stock { IsStock D.state (items_of stock.old) }
+    requires enough { (k : Kind) → number_for k configs.now ≤ counts (items_of stock.old) k }
+    ensures one_each { length stock.new ≡ 4 }
+    ensures stock { OnOk result (IsStock D.state (items_of stock.new)) }
+    ensures taken { OnOk result ((k : Kind) → counts (items_of stock.new) k + number_for k configs.now ≡ counts (items_of stock.old) k) }
+    ensures opened { OnOk result (map D.state devices.new.items ≡ map D.state devices.old.items ++ map opening configs.now) }
+{
+    for config in configs {
+        let device = take_one(&mut stock[rank(kind_of(config))], config)?;
+        match devices.push(device) {
+            Ok(()) => (),
+            Err(_) => return Err(NoMemory),
+        }
+    }
+    Ok(())
+}
+
+/// The devices of a guest with these disks, each of the list of its kind.
 pub(crate) fn devices_for<D: Device>(
     alloc: Global,
-    clints: &mut Vec<D>,
-    uarts: &mut Vec<D>,
+    disks: &[DevConfig],
+    stock: &mut [Vec<D>],
 ) -> Result<Vec<D>, NoMemory>
-    requires some { (1 ≤ length clints.old.items) × (1 ≤ length uarts.old.items) }
-    requires clints { All (IsBlankFor config.Clint) (map D.state clints.old.items) }
-    requires uarts { All (IsBlankFor config.Uart) (map D.state uarts.old.items) }
-    ensures clints { All (IsBlankFor config.Clint) (map D.state clints.new.items) }
-    ensures uarts { All (IsBlankFor config.Uart) (map D.state uarts.new.items) }
-    ensures count { OnOk result ((length clints.old.items ≡ length clints.new.items + 1) × (length uarts.old.items ≡ length uarts.new.items + 1)) }
-    ensures opened { IfOk result (λ devices. map D.state devices.items ≡ opening_devices) }
+    requires one_each { length stock.old ≡ 4 }
+    requires limits { All IsInLimits disks.now }
+    requires stock { IsStock D.state (items_of stock.old) }
+    requires enough { (k : Kind) → number_for k (with_base disks.now) ≤ counts (items_of stock.old) k }
+    ensures one_each { length stock.new ≡ 4 }
+    ensures stock { OnOk result (IsStock D.state (items_of stock.new)) }
+    ensures taken { OnOk result ((k : Kind) → counts (items_of stock.new) k + number_for k (with_base disks.now) ≡ counts (items_of stock.old) k) }
+    ensures opened { IfOk result (λ devices. map D.state devices.items ≡ map opening (with_base disks.now)) }
 {
-    let clint = take_one(clints, &DevConfig::Clint)?;
-    let uart = take_one(uarts, &DevConfig::Uart)?;
     let mut devices = Vec::new(alloc);
-    match devices.push(clint) {
-        Ok(()) => (),
-        Err(_) => return Err(NoMemory),
-    }
-    match devices.push(uart) {
-        Ok(()) => (),
-        Err(_) => return Err(NoMemory),
-    }
+    take_each(&[DevConfig::Clint, DevConfig::Uart], stock, &mut devices)?;
+    take_each(disks, stock, &mut devices)?;
     Ok(devices)
 }

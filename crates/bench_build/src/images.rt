@@ -3,35 +3,34 @@ ghost use Rattle.std.specs.Prelude.{◌≡◌, ◌≤◌, ℕ, length, replicate
 ghost use Rattle.guest_ram.specs.Bytes.{ram_after};
 ghost use Rattle.bench_build.specs.Answers.{LoadedAnswers, PutAnswers};
 ghost use Rattle.bench_build.specs.Images.{flat_image, elf_image, image};
-ghost use Rattle.bench_build.specs.Shapes.{IsShape};
+ghost use Rattle.exp_file.specs.WellFormed.{IsGuest};
 
 use crate::build_fault::BuildFault;
 use crate::image_fault::ImageFault;
 use crate::loaded::Loaded;
-use crate::shape::Shape;
 use elf_image::load_elf;
-use exp_file::Format;
+use exp_file::{Format, GuestSpec};
 use guest_ram::Ram;
 use std::alloc::Global;
 
 /// Where RAM begins, and where a guest with a flat image starts.
 const BASE: u32 = 0x8000_0000;
 
-/// RAM of a guest's shape with its image in it; a refusal tells the number of the guest.
+/// RAM of a guest with its image in it; a refusal tells the number of the guest.
 pub(crate) fn loaded_for(
     alloc: Global,
     guest: u32,
-    shape: Shape,
+    spec: &GuestSpec,
     bytes: &[u8],
 ) -> Result<Loaded, BuildFault>
-    requires { IsShape shape }
-    ensures { LoadedAnswers guest (image shape.format shape.ram bytes.now) result }
+    requires { (slots : ℕ) × IsGuest slots spec.now }
+    ensures { LoadedAnswers guest (image spec.now.format spec.now.ram bytes.now) result }
 {
-    let mut ram = match Ram::new(alloc, shape.ram) {
+    let mut ram = match Ram::new(alloc, spec.ram) {
         Ok(ram) => ram,
         Err(_) => return Err(BuildFault::NoMemory),
     };
-    match put_image(shape.format, bytes, &mut ram) {
+    match put_image(spec.format, bytes, &mut ram) {
         Ok(entry) => Ok(Loaded { ram, entry }),
         Err(fault) => Err(BuildFault::Image { guest, fault }),
     }

@@ -3,13 +3,15 @@
 
 mod build_fault;
 mod builder;
+mod capacities;
 mod devices;
+mod disks;
 mod image_fault;
 mod images;
+mod kinds;
 mod loaded;
 mod machines;
-mod plan;
-mod shape;
+mod needs;
 mod stock;
 
 pub use build_fault::BuildFault;

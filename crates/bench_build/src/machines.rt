@@ -1,78 +1,108 @@
 //! The machines of the guests.
-ghost use Rattle.std.specs.Prelude.{◌≡◌, ◌+◌, ◌≤◌, ℕ, List, length, map, slice_get, Some, IfOk, All, OnOk};
-ghost use Rattle.dev_face.specs.States.{IsBlankFor};
-ghost use Rattle.dev_face.specs.declared.config.DevConfig.TheVariants as config;
+ghost use Rattle.std.specs.Prelude.{◌≡◌, ◌<◌, ◌≤◌, ◌+◌, ℕ, List, length, map, slice_get, Some, IfOk, OnOk, All};
+ghost use Rattle.dev_face.specs.States.{opening as opened};
+ghost use Rattle.dev_face.specs.declared.kind.Kind.{Kind};
+ghost use Rattle.exp_file.specs.WellFormed.{IsWellFormed};
+ghost use Rattle.exp_file.specs.declared.disk_spec.DiskSpec.{DiskSpec};
 ghost use Rattle.lookahead_core.specs.Motion.{Idle};
 ghost use Rattle.guest_machine.specs.MachineView.{machine_state, machine_clock};
-ghost use Rattle.guest_machine.specs.Opening.{opening, opening_devices};
+ghost use Rattle.guest_machine.specs.Opening.{opening};
+ghost use Rattle.bench_build.specs.Answers.{Fills};
 ghost use Rattle.bench_build.specs.Openings.{openings};
-ghost use Rattle.bench_build.specs.Shapes.{IsShape};
-ghost use Rattle.bench_build.specs.Stocks.{Suffices};
-ghost use Rattle.bench_build.specs.declared.shape.Shape.{Shape};
+ghost use Rattle.bench_build.specs.Setups.{disk_configs};
+ghost use Rattle.bench_build.specs.Stocks.{IsStock, counts, items_of, Suffices};
+ghost use Rattle.bench_build.specs.Takings.{AreDisks, number_for, with_base, disks_at, guests_take};
 
 use crate::devices::devices_for;
+use crate::disks::disks_by_guest;
 use crate::loaded::Loaded;
-use crate::shape::Shape;
-use dev_face::Device;
+use dev_face::{DevConfig, Device};
+use exp_file::{Experiment, GuestSpec};
 use guest_machine::{GuestPlan, Machine};
 use std::alloc::Global;
-use tb_base::NoMemory;
+use tb_base::{Bytes, NoMemory};
 
-/// The machine of a guest.
+/// The machine of a guest with these disks.
 fn machine_for<D: Device>(
     alloc: Global,
-    shape: Shape,
+    rate: u32,
     loaded: Loaded,
-    devices: Vec<D>,
+    disks: &[DevConfig],
+    stock: &mut [Vec<D>],
 ) -> Result<Machine<D>, NoMemory>
-    requires shape { IsShape shape }
-    requires devices { map D.state devices.items ≡ opening_devices }
-    ensures state { IfOk result (λ m. machine_state m ≡ opening shape.rate loaded.entry loaded.ram opening_devices) }
+    requires rate { (1 ≤ rate) × (rate ≤ 100000) }
+    requires disks { AreDisks disks.now }
+    requires one_each { length stock.old ≡ 4 }
+    requires stock { IsStock D.state (items_of stock.old) }
+    requires enough { (k : Kind) → number_for k (with_base disks.now) ≤ counts (items_of stock.old) k }
+    ensures one_each { length stock.new ≡ 4 }
+    ensures stock { OnOk result (IsStock D.state (items_of stock.new)) }
+    ensures taken { OnOk result ((k : Kind) → counts (items_of stock.new) k + number_for k (with_base disks.now) ≡ counts (items_of stock.old) k) }
+    ensures state { IfOk result (λ m. machine_state m ≡ opening rate loaded.entry loaded.ram (map opened (with_base disks.now))) }
     ensures idle { IfOk result (λ m. machine_clock m ≡ Idle 0) }
 {
+    let devices = devices_for(alloc, disks, stock)?;
     let plan = GuestPlan {
-        rate: shape.rate,
+        rate,
         entry: loaded.entry,
-        disks: 0,
+        disks: disks.len() as u32,
         nics: 0,
     };
     Machine::build(alloc, &plan, loaded.ram, devices)
 }
 
-/// The machines of the guests of these shapes, whose images stand in RAM.
+/// The machines of the guests, whose images stand in RAM, each with its disks.
 pub(crate) fn machines_for<D: Device>(
     alloc: Global,
-    shapes: &[Shape],
+    guests: &[GuestSpec],
     loaded: Vec<Loaded>,
-    clints: Vec<D>,
-    uarts: Vec<D>,
+    disks: &[Vec<DevConfig>],
+    stock: &mut [Vec<D>],
 ) -> Result<Vec<Machine<D>>, NoMemory>
-    requires shaped { (g : ℕ) (s : Shape) → slice_get shapes.now g ≡ Some s → IsShape s }
-    requires all { length loaded.items ≡ length shapes.now }
-    requires stock { Suffices (length loaded.items) (length clints.items) (length uarts.items) }
-    requires clints { All (IsBlankFor config.Clint) (map D.state clints.items) }
-    requires uarts { All (IsBlankFor config.Uart) (map D.state uarts.items) }
-    ensures states { IfOk result (λ machines. map machine_state machines.items ≡ openings shapes.now loaded.items) }
+    requires rates { All (λ g. (1 ≤ g.rate) × (g.rate ≤ 100000)) guests.now }
+    requires all { length loaded.items ≡ length guests.now }
+    requires lists { length disks.now ≡ length guests.now }
+    requires disks { (g : ℕ) → g < length guests.now → AreDisks (disks_at disks.now g) }
+    requires one_each { length stock.old ≡ 4 }
+    requires stock { IsStock D.state (items_of stock.old) }
+    requires enough { (k : Kind) → guests_take k (disks_at disks.now) (length guests.now) ≤ counts (items_of stock.old) k }
+    ensures states { IfOk result (λ machines. map machine_state machines.items ≡ openings (λ g. map opened (with_base (disks_at disks.now g))) guests.now loaded.items) }
     ensures count { IfOk result (λ machines. length machines.items ≡ length loaded.items) }
     ensures idle { IfOk result (λ machines. All (λ m. machine_clock m ≡ Idle 0) machines.items) }
 {
-    let mut clints = clints;
-    let mut uarts = uarts;
     let mut machines = Vec::new(alloc);
     for image in loaded {
-        let shape = shapes[machines.len()];
-        let devices = match devices_for(alloc, &mut clints, &mut uarts) {
-            Ok(devices) => devices,
-            Err(_) => return Err(NoMemory),
-        };
-        let machine = match machine_for(alloc, shape, image, devices) {
-            Ok(machine) => machine,
-            Err(_) => return Err(NoMemory),
-        };
+        let index = machines.len();
+        let rate = guests[index].rate;
+        let machine = machine_for(alloc, rate, image, &disks[index], stock)?;
         match machines.push(machine) {
             Ok(()) => (),
             Err(_) => return Err(NoMemory),
         }
     }
     Ok(machines)
+}
+
+/// The machines of an experiment whose images stand in RAM, with disks that hold these contents.
+pub(crate) fn all_machines<D: Device>(
+    alloc: Global,
+    e: &Experiment,
+    loaded: Vec<Loaded>,
+    contents: Vec<Bytes>,
+    stock: &mut [Vec<D>],
+) -> Result<Vec<Machine<D>>, NoMemory>
+    requires well_formed { IsWellFormed e.now }
+    requires images { length loaded.items ≡ length e.now.guests.items }
+    requires disks { length contents.items ≡ length e.now.disks.items }
+    requires filled { (j : ℕ) (d : DiskSpec) (b : List ℕ) → slice_get e.now.disks.items j ≡ Some d → slice_get contents.items j ≡ Some b → Fills d b }
+    requires one_each { length stock.old ≡ 4 }
+    requires stock { IsStock D.state (items_of stock.old) }
+    requires enough { Suffices e.now (counts (items_of stock.old)) }
+    ensures states { IfOk result (λ machines. map machine_state machines.items
+        ≡ openings (λ g. map opened (with_base (disk_configs g 0 e.now.disks.items contents.items))) e.now.guests.items loaded.items) }
+    ensures count { IfOk result (λ machines. length machines.items ≡ length loaded.items) }
+    ensures idle { IfOk result (λ machines. All (λ m. machine_clock m ≡ Idle 0) machines.items) }
+{
+    let disks = disks_by_guest(alloc, e.guests.len(), e.disks.as_slice(), contents)?;
+    machines_for(alloc, e.guests.as_slice(), loaded, &disks, stock)
 }

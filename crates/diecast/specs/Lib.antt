@@ -1,2 +1,3 @@
--- Claims: Codes, the exit status of each end.
+-- Claims: Boxes, how many devices of each kind the program has, and Codes, the exit status of each end.
+pub mod Boxes
 pub mod Codes

@@ -2,6 +2,7 @@
 use Rattle.std.proofs.Common.{◌≡◌, ◌==◌, ℕ, ◌≤◌, ◌<◌, ◌+◌, ◌&&◌, ◌||◌, Bool, true, false, List, [], ◌∷◌, ◌++◌, map, cond, subst, sym, refl, ◌∙◌, arith}
 use Rattle.std.proofs.lemmas.Bool.Decides.{nat_tests}
 use Rattle.std.proofs.lemmas.List.Sums.{sum_by-append, sum_by-cons}
+use Rattle.std.proofs.lemmas.Slice.Eq.{bytes_eq-Decides}
 use Rattle.std.specs.List.{IsDistinct, AllByRecursion, list_any, count_by}
 use Rattle.std.specs.Str.{bytes_eq}
 use Rattle.exp_file.specs.declared.guest_spec.GuestSpec.{GuestSpec}
@@ -11,7 +12,6 @@ use Rattle.exp_file.specs.Tables.{is_named}
 use Rattle.exp_file.specs.Disks.{disks_of}
 use Rattle.exp_file.specs.Links.{is_used, ends_at}
 use Rattle.exp_file.specs.WellFormed.{IsFree}
-use Rattle.exp_file.proofs.Books.{bytes_sym}
 
 or_left : (a b : Bool) → (a || b) ≡ false → a ≡ false
 or_left false b h = refl
@@ -21,6 +21,16 @@ or_right : (a b : Bool) → (a || b) ≡ false → b ≡ false
 or_right false b h = h
 or_right true b h = absurd (cc)
 
+same_bool : (a b : Bool) → (a ≡ true → b ≡ true) → (b ≡ true → a ≡ true) → a ≡ b
+same_bool true b h k = sym (h refl)
+same_bool false true h k = k refl
+same_bool false false h k = refl
+
+bytes_sym : (x y : List ℕ) → bytes_eq x y ≡ bytes_eq y x
+bytes_sym x y = same_bool (bytes_eq x y) (bytes_eq y x)
+    (λ h. (bytes_eq-Decides y x).1 (sym ((bytes_eq-Decides x y).0 h)))
+    (λ h. (bytes_eq-Decides x y).1 (sym ((bytes_eq-Decides y x).0 h)))
+
 abbrev names : List GuestSpec → List (List ℕ)
 names gs = map (λ g. g.name) gs
 
@@ -29,20 +39,13 @@ apart_push : (x : List ℕ) (gs : List GuestSpec) (g : GuestSpec) → AllByRecur
 apart_push x [] g all apart = (apart, tt)
 apart_push x (h ∷ gs) g all apart = (all.0, apart_push x gs g all.1 apart)
 
-names_more : (gs : List GuestSpec) (g : GuestSpec) → IsDistinct bytes_eq (names gs) → is_named g.name gs ≡ false → IsDistinct bytes_eq (names (gs ++ g ∷ []))
+pub names_more : (gs : List GuestSpec) (g : GuestSpec) → IsDistinct bytes_eq (names gs) → is_named g.name gs ≡ false → IsDistinct bytes_eq (names (gs ++ g ∷ []))
 unfolding IsDistinct
 names_more [] g d new = (tt, tt)
 names_more (x ∷ gs) g d new = (
   apart_push x.name gs g d.0 (bytes_sym x.name g.name ∙ or_left (bytes_eq g.name x.name) (is_named g.name gs) new),
   names_more gs g d.1 (or_right (bytes_eq g.name x.name) (is_named g.name gs) new),
 )
-
-pub names_push : (gs next : List GuestSpec) (g : GuestSpec) → IsDistinct bytes_eq (names gs) → is_named g.name gs ≡ false → next ≡ gs ++ g ∷ [] → IsDistinct bytes_eq (names next)
-names_push gs next g d new e = subst (λ z. IsDistinct bytes_eq (names z)) (sym e) (names_more gs g d new)
-
-pub no_names : (gs : List GuestSpec) → gs ≡ [] → IsDistinct bytes_eq (names gs)
-unfolding IsDistinct
-no_names gs e = subst (λ z. IsDistinct bytes_eq (names z)) (sym e) tt
 
 count_push : {A : Type 0} (p : A → Bool) (xs : List A) (x : A) → count_by p (xs ++ x ∷ []) ≡ count_by p xs + cond (p x) 1 0
 count_push p xs x =
@@ -54,13 +57,10 @@ one_more : (t : Bool) (n : ℕ) → n ≤ 2 → (t ≡ true → n < 2) → n + c
 one_more true n low room = let less : n < 2 = room refl in omega arith
 one_more false n low room = omega arith
 
-two_more : (ds : List DiskSpec) (d : DiskSpec) (g : ℕ) → disks_of g ds ≤ 2 → disks_of d.guest ds < 2 → disks_of g (ds ++ d ∷ []) ≤ 2
+pub two_more : (ds : List DiskSpec) (d : DiskSpec) (g : ℕ) → disks_of g ds ≤ 2 → disks_of d.guest ds < 2 → disks_of g (ds ++ d ∷ []) ≤ 2
 two_more ds d g two room =
     rw (count_push (λ x. x.guest == g) ds d) (one_more (d.guest == g) (disks_of g ds) two
     (λ h. let same : d.guest ≡ g = grind (arith, nat_tests) in subst (λ z. disks_of z ds < 2) same room))
-
-pub two_push : (ds next : List DiskSpec) (d : DiskSpec) → ((g : ℕ) → disks_of g ds ≤ 2) → disks_of d.guest ds < 2 → next ≡ ds ++ d ∷ [] → (g : ℕ) → disks_of g next ≤ 2
-two_push ds next d two room e g = subst (λ z. disks_of g z ≤ 2) (sym e) (two_more ds d g (two g) room)
 
 uncounted : (t : Bool) → t ≡ false → cond {A = ℕ} t 1 0 ≡ 0
 uncounted false h = refl
@@ -105,9 +105,9 @@ not_both l g nic true apart here there =
     let nics : l.a_nic ≡ l.b_nic = first.1 ∙ sym second.1 in
     absurd (let no : (l.a == l.b && l.a_nic == l.b_nic) ≡ true = grind (arith, nat_tests) in cc)
 
-pub one_push : (ls next : List LinkSpec) (l : LinkSpec) → ((g nic : ℕ) → ends_at g nic ls ≤ 1) → IsFree ls l → next ≡ ls ++ l ∷ [] → (g nic : ℕ) → ends_at g nic next ≤ 1
-one_push ls next l one free e g nic =
-    subst (λ z. ends_at g nic z ≤ 1) (sym e) (rw (ends_more ls l g nic) (one_end (ends_at g nic ls) (l.a == g && l.a_nic == nic) (l.b == g && l.b_nic == nic) (one g nic)
+pub one_end_more : (ls : List LinkSpec) (l : LinkSpec) (g nic : ℕ) → ends_at g nic ls ≤ 1 → IsFree ls l → ends_at g nic (ls ++ l ∷ []) ≤ 1
+one_end_more ls l g nic one free =
+    rw (ends_more ls l g nic) (one_end (ends_at g nic ls) (l.a == g && l.a_nic == nic) (l.b == g && l.b_nic == nic) one
     (λ h. let same = same_nic l.a l.a_nic g nic h in unused ls g nic (subst (λ z. is_used ls z nic ≡ false) same.0 (subst (λ z. is_used ls l.a z ≡ false) same.1 free.a)))
     (λ h. let same = same_nic l.b l.b_nic g nic h in unused ls g nic (subst (λ z. is_used ls z nic ≡ false) same.0 (subst (λ z. is_used ls l.b z ≡ false) same.1 free.b)))
-    (λ h. not_both l g nic (l.b == g && l.b_nic == nic) free.apart h refl)))
+    (λ h. not_both l g nic (l.b == g && l.b_nic == nic) free.apart h refl))

@@ -1,6 +1,5 @@
 -- The steps of a loop over the tables of an array.
-use Rattle.std.proofs.Common.{◌≡◌, ℕ, zero, suc, All, subst, ◌<◌, ◌+◌, List, [], ◌∷◌, ◌++◌, length, drop, get_or, Result, Ok, sym, ap, ◌∙◌, arith, length-append}
-use Rattle.std.proofs.lemmas.List.Elements.{All-append}
+use Rattle.std.proofs.Common.{◌≡◌, ℕ, ◌<◌, ◌+◌, List, [], ◌∷◌, ◌++◌, length, drop, get_or, Result, Ok, sym, ap, ◌∙◌, arith, length-append}
 use Rattle.toml.specs.View.{view, items_view}
 use Rattle.toml.specs.Data.{Data}
 use Rattle.toml.proofs.Views.{items_view-drop}
@@ -48,10 +47,3 @@ pub stops : {A : Type 0} (step : List A → Data → Result A ExpFault) (done : 
 stops step done values i v e h same along fails =
     fails_along e (step done (view v)) (λ s. each step (done ++ s ∷ []) (items_view (drop (i + 1) values))) _
     (sym along.same ∙ each_step step done values i v h same) fails
-
-All-single : {A : Type 0} (P : A → Type 0) (x : A) → P x → All P (x ∷ [])
-All-single P x p zero d h = p
-All-single P x p (suc k) d h = absurd (omega arith)
-
-pub All-push : {A : Type 0} (P : A → Type 0) (xs ys : List A) (x : A) → All P xs → P x → ys ≡ xs ++ x ∷ [] → All P ys
-All-push {A} P xs ys x h p e = subst (λ (z : List A). All P z) (sym e) (All-append P xs (x ∷ []) h (All-single P x p))

@@ -1,6 +1,6 @@
 -- Claims: Reading says what an experiment file says, of the definitions in Rows, Tables, Disks, Links, Arrays, Lists and Unknown; WellFormed
 -- says what every experiment that is read keeps.
--- What proofs keep: Places and RowOf, and in Lists and Arrays all but `listed`, `Reads` and `arrays_of`.
+-- What proofs keep: Places, RowOf and Kept, and in Lists and Arrays all but `listed`, `Reads` and `arrays_of`.
 pub mod Rows
 pub mod Places
 pub mod RowOf
@@ -11,4 +11,5 @@ pub mod Disks
 pub mod Links
 pub mod Reading
 pub mod WellFormed
+pub mod Kept
 pub mod Unknown

@@ -1,36 +1,46 @@
 //! The disks, and the guests that names stand for.
-ghost use Rattle.std.specs.Prelude.{◌≡◌, [], ◌≤◌, ◌<◌, length, IfOk, IfSome, All, ℕ, Some};
-ghost use Rattle.toml.specs.View.{view, items_view};
-ghost use Rattle.exp_file.specs.Disks.{guest_at, found, disks_of, with_room, disk_of, disk_step};
-ghost use Rattle.exp_file.specs.Lists.{ListGives};
+ghost use Rattle.std.specs.Prelude.{◌≡◌, ◌≤◌, ◌<◌, length, IfOk, IfSome, Some};
+ghost use Rattle.exp_file.specs.Disks.{guest_named, guest_at, found, disks_of, with_room, disk_of};
 ghost use Rattle.exp_file.specs.Places.{place};
 ghost use Rattle.exp_file.specs.Rows.{Gives};
-ghost use Rattle.exp_file.specs.Tables.{each};
 ghost use Rattle.exp_file.specs.WellFormed.{IsDisk};
 
-use crate::book::GuestBook;
 use crate::disk_spec::DiskSpec;
+use crate::each::Step;
 use crate::exp_fault::ExpErr;
 use crate::exp_why::ExpWhy;
 use crate::form::Form;
+use crate::guest_spec::GuestSpec;
 use crate::rows::Row;
 use crate::section::Section;
 use crate::slots::row;
 use std::alloc::Global;
-use tb_base::ItemList;
 use tb_base::limits::{BASE, DISKS_PER_GUEST, PER_SECTOR, SECTORS, SEEK_DEN, SEEK_NUM};
 use toml::Value;
 
+/// The number of the guest that has the name.
+fn guest_named(guests: &[GuestSpec], name: &str) -> Option<usize>
+    ensures given { result ≡ guest_named guests.now name.now }
+    ensures bound { IfSome result (λ g. g < length guests.now) }
+{
+    guests.iter().position(|g| name == g.name.as_str())
+}
+
 /// The guest that the text at a key names, if there is one.
 #[tactic(auto, unfolding(crate::specs::Disks::guest_at))]
-pub(crate) fn guest_at(guests: &GuestBook, row: &Row<'_>, key: &str) -> Result<Option<u32>, ExpErr>
+pub(crate) fn guest_at(
+    guests: &[GuestSpec],
+    row: &Row<'_>,
+    key: &str,
+) -> Result<Option<u32>, ExpErr>
     requires { length guests.now ≤ 32 }
     ensures given { Gives result (guest_at (place row.now.section row.now.index row.now.table.now) guests.now key.now) }
     ensures bound { IfOk result (λ o. IfSome o (λ g. g < length guests.now)) }
 {
-    match row.text(key, Form::AnyText) {
-        Ok(name) => Ok(guests.guest_named(name)),
-        Err(e) => Err(e),
+    let name = row.text(key, Form::AnyText)?;
+    match guest_named(guests, name) {
+        Some(number) => Ok(Some(number as u32)),
+        None => Ok(None),
     }
 }
 
@@ -68,7 +78,7 @@ fn with_room(done: &[DiskSpec], row: &Row<'_>, g: u32) -> Result<u32, ExpErr>
 #[tactic(auto, unfolding(crate::specs::Disks::disk_of))]
 fn disk_of(
     alloc: Global,
-    guests: &GuestBook,
+    guests: &[GuestSpec],
     done: &[DiskSpec],
     row: &Row<'_>,
 ) -> Result<DiskSpec, ExpErr>
@@ -98,46 +108,26 @@ fn disk_of(
     })
 }
 
-#[tactic(auto, unfolding(crate::specs::Disks::disk_step))]
-fn disk_step(
-    alloc: Global,
-    guests: &GuestBook,
-    done: &[DiskSpec],
-    value: &Value,
-) -> Result<DiskSpec, ExpErr>
-    requires guests { length guests.now ≤ 32 }
-    requires room { length done.now < 64 }
-    ensures given { Gives result (disk_step guests.now done.now (view value.now)) }
-    ensures well { IfOk result (IsDisk (length guests.now)) }
-    ensures room { IfOk result (λ d. disks_of d.guest done.now < 2) }
-{
-    let row = row(Section::Disk, done.len() as u32, value)?;
-    disk_of(alloc, guests, done, &row)
+/// The disks of a file that has these guests.
+#[derive(Clone, Copy)]
+pub(crate) struct Disks<'a> {
+    pub(crate) alloc: Global,
+    pub(crate) guests: &'a [GuestSpec],
 }
 
-/// The disks that an array's items say, in order.
-pub(crate) fn read_disks(
-    alloc: Global,
-    guests: &GuestBook,
-    values: &[Value],
-) -> Result<ItemList<DiskSpec>, ExpErr>
-    requires guests { length guests.now ≤ 32 }
-    requires room { length values.now ≤ 64 }
-    ensures given { ListGives result (each (disk_step guests.now) [] (items_view values.now)) }
-    ensures bound { IfOk result (λ s. length s.items ≡ length values.now) }
-    ensures well { IfOk result (λ s. All (IsDisk (length guests.now)) s.items) }
-    ensures two { IfOk result (λ s. (g : ℕ) → disks_of g s.items ≤ 2) }
-{
-    let mut disks = ItemList::new(alloc);
-    for value in values {
-        let disk = match disk_step(alloc, guests, disks.as_slice(), value) {
-            Ok(disk) => disk,
-            Err(e) => return Err(e),
-        };
-        match disks.push(disk) {
-            Ok(()) => (),
-            Err(_) => return Err(ExpErr::NoMemory),
-        }
+impl Step for Disks<'_> {
+    ghost use Rattle.exp_file.specs.Disks.{disk_step};
+    ghost use Rattle.exp_file.specs.Kept.{AreDisks};
+
+    type Item = DiskSpec;
+
+    ghost says = { λ d. disk_step d.guests.now };
+
+    ghost keeps = { λ d. AreDisks d.guests.now };
+
+    #[tactic(auto, unfolding(crate::specs::Disks::disk_step))]
+    fn step(&self, done: &[DiskSpec], value: &Value) -> Result<DiskSpec, ExpErr> {
+        let row = row(Section::Disk, done.len() as u32, value)?;
+        disk_of(self.alloc, self.guests, done, &row)
     }
-    Ok(disks)
 }

@@ -1,14 +1,11 @@
 //! The guests.
-ghost use Rattle.std.specs.Prelude.{◌≡◌, [], ◌≤◌, ◌<◌, ◌^◌, length, IfOk, All, map, false};
+ghost use Rattle.std.specs.Prelude.{◌≡◌, ◌<◌, IfOk, false};
 ghost use Rattle.exp_file.specs.WellFormed.{IsGuest};
-ghost use Rattle.std.specs.List.{IsDistinct};
-ghost use Rattle.std.specs.Str.{bytes_eq};
-ghost use Rattle.toml.specs.View.{view, items_view};
 ghost use Rattle.exp_file.specs.Rows.{Gives};
 ghost use Rattle.exp_file.specs.Places.{place};
-ghost use Rattle.exp_file.specs.Tables.{guest_of, is_named, once, guest_step, each};
+ghost use Rattle.exp_file.specs.Tables.{guest_of, is_named, once};
 
-use crate::book::GuestBook;
+use crate::each::Step;
 use crate::exp_fault::ExpErr;
 use crate::exp_why::ExpWhy;
 use crate::form::Form;
@@ -46,55 +43,47 @@ fn read_guest(alloc: Global, slots: u32, row: &Row<'_>) -> Result<GuestSpec, Exp
     })
 }
 
+/// Whether one of the guests has the name.
+fn is_named(name: &str, guests: &[GuestSpec]) -> bool
+    ensures { result ≡ is_named name.now guests.now }
+{
+    guests.iter().any(|g| name == g.name.as_str())
+}
+
 #[tactic(auto, unfolding(crate::specs::Tables::once))]
-fn once(done: &GuestBook, row: &Row<'_>, guest: GuestSpec) -> Result<GuestSpec, ExpErr>
+fn once(done: &[GuestSpec], row: &Row<'_>, guest: GuestSpec) -> Result<GuestSpec, ExpErr>
     ensures given { Gives result (once done.now (place row.now.section row.now.index row.now.table.now) guest) }
     ensures same { IfOk result (λ g. g ≡ guest) }
     ensures new { IfOk result (λ g. is_named g.name done.now ≡ false) }
 {
-    if done.is_named(guest.name.as_str()) {
+    if is_named(guest.name.as_str(), done) {
         Err(row.fault("name", ExpWhy::Twice))
     } else {
         Ok(guest)
     }
 }
 
-#[tactic(auto, unfolding(crate::specs::Tables::guest_step))]
-fn guest_step(
-    alloc: Global,
-    slots: u32,
-    done: &GuestBook,
-    value: &Value,
-) -> Result<GuestSpec, ExpErr>
-    requires room { length done.now < 32 }
-    requires slots { 0 < slots }
-    ensures given { Gives result (guest_step slots done.now (view value.now)) }
-    ensures well { IfOk result (IsGuest slots) }
-    ensures new { IfOk result (λ g. is_named g.name done.now ≡ false) }
-{
-    let row = row(Section::Guest, done.as_slice().len() as u32, value)?;
-    let guest = read_guest(alloc, slots, &row)?;
-    once(done, &row, guest)
+/// The guests of a file that has so many slots.
+#[derive(Clone, Copy)]
+pub(crate) struct Guests {
+    pub(crate) alloc: Global,
+    pub(crate) slots: u32,
 }
 
-pub(crate) fn read_guests(alloc: Global, slots: u32, values: &[Value]) -> Result<GuestBook, ExpErr>
-    requires room { length values.now ≤ 32 }
-    requires slots { 0 < slots }
-    ensures given { Gives result (each (guest_step slots) [] (items_view values.now)) }
-    ensures bound { IfOk result (λ s. length s ≡ length values.now) }
-    ensures well { IfOk result (λ s. All (IsGuest slots) s) }
-    ensures names { IfOk result (λ s. IsDistinct bytes_eq (map (λ g. g.name) s)) }
-{
-    let mut guests = GuestBook::new(alloc);
-    for value in values {
-        let guest = match guest_step(alloc, slots, &guests, value) {
-            Ok(guest) => guest,
-            Err(e) => return Err(e),
-        };
-        match guests.push(alloc, guest) {
-            Ok(()) => (),
-            Err(_) => return Err(ExpErr::NoMemory),
-        }
+impl Step for Guests {
+    ghost use Rattle.exp_file.specs.Kept.{AreGuests};
+    ghost use Rattle.exp_file.specs.Tables.{guest_step};
+
+    type Item = GuestSpec;
+
+    ghost says = { λ g. guest_step g.slots };
+
+    ghost keeps = { λ g. AreGuests g.slots };
+
+    #[tactic(auto, unfolding(crate::specs::Tables::guest_step))]
+    fn step(&self, done: &[GuestSpec], value: &Value) -> Result<GuestSpec, ExpErr> {
+        let row = row(Section::Guest, done.len() as u32, value)?;
+        let guest = read_guest(self.alloc, self.slots, &row)?;
+        once(done, &row, guest)
     }
-    Ok(guests)
 }

@@ -7,3 +7,8 @@ ghost use Rattle.exp_file.specs.Reading.{reading};
 pub fn guests_are_few()
     ensures few { (b : List ℕ) (e : Experiment) → reading b ≡ Ok e → length e.guests.items ≤ 32 }
 {}
+
+/// An experiment that a file says has 64 disks at most.
+pub fn disks_are_few()
+    ensures few { (b : List ℕ) (e : Experiment) → reading b ≡ Ok e → length e.disks.items ≤ 64 }
+{}

@@ -2,9 +2,9 @@
 #![tactic(auto)]
 
 mod arrays;
-mod book;
 mod disk_spec;
 mod disks;
+mod each;
 mod exp_fault;
 mod exp_why;
 mod experiment;
@@ -26,7 +26,7 @@ pub use exp_fault::{ExpErr, ExpFault};
 pub use exp_why::ExpWhy;
 pub use experiment::Experiment;
 pub use guest_spec::{Format, GuestSpec};
-pub use law::guests_are_few;
+pub use law::{disks_are_few, guests_are_few};
 pub use link_spec::LinkSpec;
 pub use read::read_experiment;
 pub use section::Section;

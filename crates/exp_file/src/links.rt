@@ -1,15 +1,12 @@
 //! The links.
-ghost use Rattle.std.specs.Prelude.{◌≡◌, ◌+◌, [], ◌≤◌, ◌<◌, length, ℕ, Some, IfOk, IfSome, All, false};
-ghost use Rattle.toml.specs.View.{view, items_view};
-ghost use Rattle.exp_file.specs.Links.{nics_of, has_end, is_used, is_same, free_nic, end_of, link_fields, link_ends, link_step, ends_at};
-ghost use Rattle.exp_file.specs.Lists.{ListGives};
+ghost use Rattle.std.specs.Prelude.{◌≡◌, ◌≤◌, ◌<◌, length, Some, IfOk, false};
+ghost use Rattle.exp_file.specs.Links.{nics_of, has_end, is_used, is_same, free_nic, end_of, link_fields, link_ends};
 ghost use Rattle.exp_file.specs.Places.{place};
 ghost use Rattle.exp_file.specs.Rows.{Gives};
-ghost use Rattle.exp_file.specs.Tables.{each};
 ghost use Rattle.exp_file.specs.WellFormed.{IsLink, IsFree, AreFields};
 
-use crate::book::GuestBook;
 use crate::disks::{found, guest_at};
+use crate::each::Step;
 use crate::exp_fault::ExpErr;
 use crate::exp_why::ExpWhy;
 use crate::guest_spec::GuestSpec;
@@ -17,8 +14,6 @@ use crate::link_spec::LinkSpec;
 use crate::rows::Row;
 use crate::section::Section;
 use crate::slots::row;
-use std::alloc::Global;
-use tb_base::ItemList;
 use tb_base::limits::{BANDWIDTH, DELAY, NICS, QUEUE};
 use toml::Value;
 
@@ -110,7 +105,7 @@ pub struct LinkFields {
 }
 
 #[tactic(auto, unfolding(crate::specs::Links::link_fields))]
-fn link_fields(guests: &GuestBook, row: &Row<'_>) -> Result<LinkFields, ExpErr>
+fn link_fields(guests: &[GuestSpec], row: &Row<'_>) -> Result<LinkFields, ExpErr>
     requires { length guests.now ≤ 32 }
     ensures given { Gives result (link_fields guests.now (place row.now.section row.now.index row.now.table.now)) }
     ensures well { IfOk result (AreFields (length guests.now)) }
@@ -136,7 +131,7 @@ fn link_fields(guests: &GuestBook, row: &Row<'_>) -> Result<LinkFields, ExpErr>
 
 #[tactic(auto, unfolding(crate::specs::Links::link_ends))]
 fn link_ends(
-    guests: &GuestBook,
+    guests: &[GuestSpec],
     done: &[LinkSpec],
     row: &Row<'_>,
     f: &LinkFields,
@@ -147,13 +142,13 @@ fn link_ends(
     ensures free { IfOk result (IsFree done.now) }
 {
     let first = Around {
-        guests: guests.as_slice(),
+        guests,
         done,
         other: None,
     };
     let a = end_of(row, &first, "a", "a_nic", f.a, f.a_nic)?;
     let second = Around {
-        guests: guests.as_slice(),
+        guests,
         done,
         other: Some((a, f.a_nic)),
     };
@@ -169,42 +164,26 @@ fn link_ends(
     })
 }
 
-#[tactic(auto, unfolding(crate::specs::Links::link_step))]
-fn link_step(guests: &GuestBook, done: &[LinkSpec], value: &Value) -> Result<LinkSpec, ExpErr>
-    requires guests { length guests.now ≤ 32 }
-    requires room { length done.now < 64 }
-    ensures given { Gives result (link_step guests.now done.now (view value.now)) }
-    ensures well { IfOk result (IsLink guests.now) }
-    ensures free { IfOk result (IsFree done.now) }
-{
-    let row = row(Section::Link, done.len() as u32, value)?;
-    let fields = link_fields(guests, &row)?;
-    link_ends(guests, done, &row, &fields)
+/// The links of a file that has these guests.
+#[derive(Clone, Copy)]
+pub(crate) struct Links<'a> {
+    pub(crate) guests: &'a [GuestSpec],
 }
 
-/// The links that an array's items say, in order.
-pub(crate) fn read_links(
-    alloc: Global,
-    guests: &GuestBook,
-    values: &[Value],
-) -> Result<ItemList<LinkSpec>, ExpErr>
-    requires guests { length guests.now ≤ 32 }
-    requires room { length values.now ≤ 64 }
-    ensures given { ListGives result (each (link_step guests.now) [] (items_view values.now)) }
-    ensures bound { IfOk result (λ s. length s.items ≡ length values.now) }
-    ensures well { IfOk result (λ s. All (IsLink guests.now) s.items) }
-    ensures one { IfOk result (λ s. (g nic : ℕ) → ends_at g nic s.items ≤ 1) }
-{
-    let mut links = ItemList::new(alloc);
-    for value in values {
-        let link = match link_step(guests, links.as_slice(), value) {
-            Ok(link) => link,
-            Err(e) => return Err(e),
-        };
-        match links.push(link) {
-            Ok(()) => (),
-            Err(_) => return Err(ExpErr::NoMemory),
-        }
+impl Step for Links<'_> {
+    ghost use Rattle.exp_file.specs.Kept.{AreLinks};
+    ghost use Rattle.exp_file.specs.Links.{link_step};
+
+    type Item = LinkSpec;
+
+    ghost says = { λ l. link_step l.guests.now };
+
+    ghost keeps = { λ l. AreLinks l.guests.now };
+
+    #[tactic(auto, unfolding(crate::specs::Links::link_step))]
+    fn step(&self, done: &[LinkSpec], value: &Value) -> Result<LinkSpec, ExpErr> {
+        let row = row(Section::Link, done.len() as u32, value)?;
+        let fields = link_fields(self.guests, &row)?;
+        link_ends(self.guests, done, &row, &fields)
     }
-    Ok(links)
 }

@@ -10,16 +10,17 @@ ghost use Rattle.exp_file.specs.declared.section.Section.TheVariants.{Top};
 ghost use Rattle.exp_file.specs.WellFormed.{IsWellFormed};
 
 use crate::arrays::{Arrays, read_arrays};
-use crate::disks::read_disks;
+use crate::disks::Disks;
+use crate::each::read_each;
 use crate::exp_fault::{ExpErr, ExpFault};
 use crate::exp_why::ExpWhy;
 use crate::experiment::Experiment;
 use crate::guest_spec::GuestSpec;
-use crate::guests::read_guests;
-use crate::links::read_links;
+use crate::guests::Guests;
+use crate::links::Links;
 use crate::rows::Row;
 use crate::section::Section;
-use crate::slots::read_slots;
+use crate::slots::Slots;
 use std::alloc::Global;
 use tb_base::Label;
 use tb_base::limits::FACTOR;
@@ -61,15 +62,26 @@ fn read_lists(
     ensures given { Reads result (lists_of version factor (items_of arrays.now)) }
     ensures well { IfOk result IsWellFormed }
 {
-    let slots = read_slots(alloc, arrays.slots)?;
-    let guests = read_guests(alloc, slots.len() as u32, arrays.guests)?;
-    let disks = read_disks(alloc, &guests, arrays.disks)?;
-    let links = read_links(alloc, &guests, arrays.links)?;
+    let slots = read_each(alloc, &Slots, arrays.slots)?;
+    let step = Guests {
+        alloc,
+        slots: slots.len() as u32,
+    };
+    let guests = read_each(alloc, &step, arrays.guests)?;
+    let step = Disks {
+        alloc,
+        guests: guests.as_slice(),
+    };
+    let disks = read_each(alloc, &step, arrays.disks)?;
+    let step = Links {
+        guests: guests.as_slice(),
+    };
+    let links = read_each(alloc, &step, arrays.links)?;
     Ok(Experiment {
         version,
         factor,
         slots,
-        guests: guests.into_list(),
+        guests,
         disks,
         links,
     })

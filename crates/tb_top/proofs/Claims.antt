@@ -1,8 +1,9 @@
 -- What follows from how a command ends.
-use Rattle.std.proofs.Common.{◌≡◌, ◌≢◌, ℕ, ◌<◌, ◌≤◌, ◌⊎◌, true, false, List, [], length, get_or, Option, Some, IfSome, Ok, Err, inl, inr, refl, sym, ap, ◌∙◌, subst, arith}
+use Rattle.std.proofs.Common.{◌≡◌, ◌≢◌, ℕ, ◌<◌, ◌≤◌, ◌⊎◌, true, false, List, [], length, get_or, Option, Some, None, IfSome, Ok, Err, inl, inr, refl, sym, ap, ◌∙◌, subst, arith}
 use Rattle.std.specs.Fmt.{decimal}
 use Rattle.std.proofs.lemmas.Fmt.{decimal_injective}
 use Rattle.exp_file.specs.Reading.{reading}
+use Rattle.exp_file.specs.declared.disk_spec.DiskSpec.{DiskSpec}
 use Rattle.exp_file.specs.declared.experiment.Experiment.{Experiment}
 use Rattle.exp_file.specs.declared.guest_spec.GuestSpec.{GuestSpec}
 use Rattle.host_plan.specs.Fits.{Fits, IsFirstOverload, need, have}
@@ -14,22 +15,22 @@ use Rattle.plan_text.specs.Texts.{plan_text}
 use Rattle.slot_sched.specs.Legal.{start, IsComplete}
 use Rattle.slot_sched.proofs.Telling.{tells, kept_up, legal_up_to, past_complete}
 use Rattle.dev_face.specs.declared.kind.Kind.{Kind}
-use Rattle.dev_face.specs.declared.kind.Kind.TheVariants as kind
-use Rattle.bench_build.specs.Answers.{IsFault}
+use Rattle.bench_build.specs.Answers.{IsTaken, IsFault, Fills}
+use Rattle.bench_build.specs.Inputs.{Inputs}
 use Rattle.bench_build.specs.Setups.{run_rules}
 use Rattle.bench_build.specs.Stocks.{Suffices, IsShort}
 use Rattle.bench_build.specs.declared.build_fault.BuildFault.TheVariants as build
 use Rattle.bench_build.specs.declared.image_fault.ImageFault.{ImageFault}
 use Rattle.tb_io.specs.Causes.{Rose}
-use Rattle.tb_top.specs.Ends.{Ends, no_memory, no_experiment, ended, Refuses, IsAsked, TaskEnds, Asks, MayRun, AreTold, IsPartPut, FilesServed, OutServed, Completes, IsPlanned}
+use Rattle.tb_top.specs.Ends.{Ends, no_memory, no_experiment, ended, Refuses, IsAsked, TaskEnds, Asks, MayRun, IsTold, IsPartPut, FilesServed, OutServed, Completes, IsPlanned}
 use Rattle.tb_top.specs.Headline.{IsUndisturbed, IsJudged, IsTraced, IsPrinted, Headline}
 use Rattle.tb_top.specs.Lines.{is_made}
+use Rattle.tb_top.specs.Loads.{Overfills}
 use Rattle.tb_top.specs.Plans.{Plans}
-use Rattle.tb_top.specs.Reads.{IsRead, HasRead, IsTooLong, Says, Stops, experiment_limit, image_limit}
+use Rattle.tb_top.specs.Reads.{IsRead, IsTooLong, IsContent, Says, StopsAtDisk, experiment_limit, image_limit, disk_limit}
 use Rattle.tb_top.specs.Statuses.{over_status}
 use Rattle.tb_top.specs.Words.{IsRun, IsPlan, IsCommand, Gives}
 use Rattle.tb_top.specs.World.{World, Quiet}
-use Rattle.tb_top.specs.declared.status.FileId.{FileId}
 use Rattle.tb_top.specs.declared.status.FileId.TheVariants as file
 use Rattle.tb_top.specs.declared.status.Status.{Status}
 use Rattle.tb_top.specs.declared.status.Status.TheVariants.{Done, Overload as Over, Usage, Experiment as Refused, Build, TooLong, ReadFault, WriteFault, Memory}
@@ -44,23 +45,17 @@ abbrev word : ℕ → List (List ℕ) → List ℕ
 word i words = get_or words i []
 
 no_run : (words : List (List ℕ)) (f g n : List ℕ) → IsPlan words f → IsRun words g n → ⊥
-no_run words f g n plan run =
-    let lengths = ap (λ (ws : List (List ℕ)). length ws) (sym plan ∙ run) in
-    omega (arith, lengths)
+no_run words f g n plan run = omega (arith, ap length (sym plan ∙ run))
 
 one_command : (words : List (List ℕ)) (f g : List ℕ) (t u : Task) → IsCommand words f t → IsCommand words g u → (f ≡ g) × (t ≡ u)
 one_command words f g (Run m) (Run n) c d =
-    let few = c.limit in
-    let few' = d.limit in
-    (ap (word 1) (sym c.form ∙ d.form), ap (λ (k : ℕ). Run k) (decimal_injective m n (omega (arith, few)) (omega (arith, few')) (ap (word 3) (sym c.form ∙ d.form))))
+    (ap (word 1) (sym c.form ∙ d.form), ap (λ (k : ℕ). Run k) (decimal_injective m n (omega (arith, c.limit)) (omega (arith, d.limit)) (ap (word 3) (sym c.form ∙ d.form))))
 one_command words f g Plan Plan c d = (ap (word 1) (sym c.form ∙ d.form), refl)
 one_command words f g Plan (Run n) c d = absurd (no_run words f g (decimal n) c.form d.form)
 one_command words f g (Run m) Plan c d = absurd (no_run words g f (decimal m) d.form c.form)
 
 named : (f : List ℕ) → 1 ≤ length f → f ≡ [] → ⊥
-named f some none =
-    let n : length f ≡ 0 = ap length none in
-    omega (arith, some, n)
+named f some none = omega (arith, some, ap length none)
 
 no_fault : (words : List (List ℕ)) (f : List ℕ) (t : Task) (x : WordFault) → IsCommand words f t → Gives words (Err x) → ⊥
 no_fault words f (Run n) NotWords c none = none.no_run f (decimal n) c.form
@@ -77,9 +72,7 @@ of_told : (P : List ℕ → Type 0) (o : Option (List ℕ)) (t : List ℕ) → o
 of_told P o t e h = subst (λ z. IfSome z P) e h
 
 no_longer : (o : Option (List ℕ)) (limit : ℕ) (t : List ℕ) → o ≡ Some t → length t ≤ limit → IsTooLong o limit → ⊥
-no_longer o limit t told short long =
-    let more : limit < length t = of_told (λ b. limit < length b) o t told long in
-    omega (arith, short, more)
+no_longer o limit t told short long = omega (arith, short, of_told (λ b. limit < length b) o t told long)
 
 -- Of a task whose file is told.
 module _ (w : World) (t : Task) (e : Experiment) (asks : Asks w.words w.files.held t e) where
@@ -108,63 +101,63 @@ module _ (w : World) (t : Task) (e : Experiment) (asks : Asks w.words w.files.he
       absurd (cc (bad, said))
   refusal _ h = absurd h
 
-  calm_refusal : (s : Status) → Refuses w.words w.files w.files_after s → IsUndisturbed s → ⊥
-  calm_refusal s h calm = subst IsUndisturbed (refusal s h).0 calm
-
--- A run whose placement fits, whose images are told and right, and for which there are devices enough, is done, but where a file, memory or the output failed.
-data IsHurt (w : World) : Status → Type 0 where
-  hurt_memory : IsHurt w Memory
-  hurt_read : {f : FileId} → Rose w.files.faults w.files_after.faults → IsHurt w (ReadFault f)
-  hurt_put : Rose w.out.faults w.out_after.faults → IsHurt w WriteFault
-
-of_hurt : (w : World) (s : Status) → IsHurt w s → (IsUndisturbed s → ⊥) × (FilesServed w → OutServed w → s ≡ Memory)
-of_hurt w s hurt_memory = (λ calm. calm, λ files out. refl)
-of_hurt w s (hurt_read rose) = (λ calm. calm, λ files out. absurd (files rose))
-of_hurt w s (hurt_put rose) = (λ calm. calm, λ files out. absurd (out rose))
+-- A run whose placement fits, whose images and disks are told and right, and for which there are devices enough, is done, but where a file, memory or the
+-- output failed.
+abbrev IsHurt : World → Status → Type 0
+IsHurt w s = (IsUndisturbed s → ⊥) × (FilesServed w → OutServed w → s ≡ Memory)
 
 no_overload : (e : Experiment) (p : List ℕ) (o : Overload) → Fits e p → IsFirstOverload e p o → ⊥
-no_overload e p o fits over =
-    let low : need e p o.slot ≤ have e o.slot = fits o.slot over.slot in
-    omega (arith, low, over.needs, over.has, over.over)
+no_overload e p o fits over = omega (arith, fits o.slot over.slot, over.needs, over.has, over.over)
 
-no_fault_at : (held : List ℕ → Option (List ℕ)) (gs : List GuestSpec) (i : ℕ) (fault : ImageFault) → AreTold held gs → Stops held gs i (λ g. HasRead (held g.image) image_limit (λ b. IsFault g b fault)) → ⊥
-no_fault_at held gs i fault images k =
-    let told = images i k.guest k.at in
-    let same : k.why.bytes ≡ told.0 = of_told (λ t. k.why.bytes ≡ t) (held k.guest.image) told.0 told.1 k.why.read.held in
-    let bad : IsFault k.guest told.0 fault = subst (λ (b : List ℕ). IsFault k.guest b fault) same k.why.holds in
-    let right = told.3.is in
-    cc (bad, right)
+-- what was read of a file that is told has what holds of the told bytes
+read_told : (o : Option (List ℕ)) (limit : ℕ) (P : List ℕ → Type 0) (b : List ℕ) → IsTold o limit P → IsRead o limit b → P b
+read_told o limit P b told read = subst P (sym (of_told (λ t. b ≡ t) o told.bytes told.told_is read.held)) told.holds
 
-no_short : (n clints uarts : ℕ) (k : Kind) (wanted had : ℕ) → Suffices n clints uarts → IsShort n clints uarts (build.NoDevice k wanted had) → ⊥
-no_short n clints uarts kind.Clint wanted had enough short = omega (arith, enough.clints_suffice, short.2)
-no_short n clints uarts kind.Uart wanted had enough short = omega (arith, enough.uarts_suffice, short.2)
-no_short n clints uarts kind.Blk wanted had enough short = absurd short
-no_short n clints uarts kind.Net wanted had enough short = absurd short
+not_too_long : (o : Option (List ℕ)) (limit : ℕ) (P : List ℕ → Type 0) → IsTold o limit P → IsTooLong o limit → ⊥
+not_too_long o limit P told long = no_longer o limit told.bytes told.told_is told.short long
 
-module _ (w : World) (e : Experiment) (may : MayRun w.words w.files.held e) (enough : Suffices (length e.guests.items) w.stock.0 w.stock.1) where
+no_fault_of : (g : GuestSpec) (b : List ℕ) (fault : ImageFault) → IsTaken g b → IsFault g b fault → ⊥
+no_fault_of g b fault taken bad = let right = taken.is in cc (bad, right)
+
+content_fills : (held : List ℕ → Option (List ℕ)) (d : DiskSpec) (o : Option (List ℕ)) (b : List ℕ)
+    → ((name : List ℕ) → o ≡ Some name → IsTold (held name) disk_limit (Fills d)) → IsContent held o b → Fills d b
+content_fills held d None b told read = omega (arith, ap length read)
+content_fills held d (Some name) b told read = read_told (held name) disk_limit (Fills d) b (told name refl) read
+
+no_short : (e : Experiment) (had : Kind → ℕ) (k : Kind) (wanted n : ℕ) → Suffices e had → IsShort e had (build.NoDevice k wanted n) → ⊥
+no_short e had k wanted n enough short = omega (arith, enough.of k, short.wanted, short.had_is, short.short)
+
+module _ (w : World) (e : Experiment) (may : MayRun w.words w.files.held e) (enough : Suffices e w.stock) where
+  not_over : (j len room : ℕ) → StopsAtDisk w.files.held e j (Overfills w.files.held len room) → ⊥
+  not_over j len room k =
+      let fills = content_fills w.files.held k.thing k.thing.image k.why.bytes (λ name. may.disks j k.thing name k.at) k.why.read in
+      omega (arith, fills, k.why.len_is, k.why.room_is, k.why.over)
+
   run_done : (s : Status) → TaskEnds w (Run may.host_ticks) e s → (s ≡ Done) ⊎ IsHurt w s
   run_done Done h = inl refl
-  run_done WriteFault h = inr (hurt_put h.0)
-  run_done Memory h = inr hurt_memory
+  run_done WriteFault h = inr (λ calm. calm, λ files out. absurd (out h.0))
+  run_done Memory h = inr (λ calm. calm, λ files out. refl)
   run_done (Over slot need have) h = absurd (no_overload e (placed e) _ may.fits h.0)
-  run_done (Build (build.NoDevice k wanted had)) h = absurd (no_short (length e.guests.items) w.stock.0 w.stock.1 k wanted had enough h.2.holds)
-  run_done (Build (build.Image i fault)) h = absurd (no_fault_at w.files.held e.guests.items i fault may.images h.2)
-  run_done (TooLong (file.Image i)) h =
-      let told = may.images i h.2.guest h.2.at in
-      absurd (no_longer (w.files.held h.2.guest.image) image_limit told.0 told.1 told.2 h.2.why)
-  run_done (ReadFault (file.Image i)) h = inr (hurt_read h.2.why.rose)
+  run_done (Build (build.NoDevice k wanted had)) h = absurd (no_short e w.stock k wanted had enough h.2.holds)
+  run_done (Build (build.Image i fault)) (quiet, fits, k) =
+      absurd (no_fault_of k.thing k.why.bytes fault (read_told (w.files.held k.thing.image) image_limit (IsTaken k.thing) k.why.bytes (may.images i k.thing k.at) k.why.read) k.why.holds)
+  run_done (Build (build.DiskSize j len room)) h = absurd (not_over j len room h.2)
+  run_done (TooLong (file.Image i)) (quiet, fits, k) = absurd (not_too_long (w.files.held k.thing.image) image_limit (IsTaken k.thing) (may.images i k.thing k.at) k.why)
+  run_done (TooLong (file.Disk j)) (quiet, fits, k) = absurd (not_too_long (w.files.held k.why.0) disk_limit (Fills k.thing) (may.disks j k.thing k.why.0 k.at k.why.1) k.why.2)
+  run_done (ReadFault (file.Image i)) h = inr (λ calm. calm, λ files out. absurd (files h.2.why.rose))
+  run_done (ReadFault (file.Disk j)) h = inr (λ calm. calm, λ files out. absurd (files h.2.why.2.rose))
   run_done _ h = absurd h.2
 
   done_or_hurt : (s : Status) → Ends w s → (s ≡ Done) ⊎ IsHurt w s
-  done_or_hurt s (no_memory quiet) = inr hurt_memory
+  done_or_hurt s (no_memory quiet) = inr (λ calm. calm, λ files out. refl)
   done_or_hurt s (no_experiment quiet h) =
       let k = refusal w (Run may.host_ticks) e may.asks s h in
-      inr (subst (IsHurt w) (sym k.0) (hurt_read k.1))
+      inr (subst (IsHurt w) (sym k.0) (λ calm. calm, λ files out. absurd (files k.1)))
   done_or_hurt s (ended u f k h) = run_done s (came w (Run may.host_ticks) e may.asks s u f k h)
 
 pub completes : {w : World} {s : Status} → Ends w s → Completes w s
 completes {w} {s} ends = λ e may enough files out.
-    elim (done_or_hurt w e may enough s ends) [ inl done ↦ inl done | inr hurt ↦ inr ((of_hurt w s hurt).1 files out) ]
+    elim (done_or_hurt w e may enough s ends) [ inl done ↦ inl done | inr hurt ↦ inr (hurt.1 files out) ]
 
 -- A plan is put.
 plans : (w : World) (e : Experiment) (s : Status) → TaskEnds w Plan e s → Plans e (placed e) w.out w.out_after s
@@ -194,14 +187,14 @@ judged w Plan e s h calm = absurd h
 
 accepted : (w : World) (s : Status) → Ends w s → (t : Task) (e : Experiment) → Asks w.words w.files.held t e → IsUndisturbed s → IsJudged e s
 accepted w s (no_memory quiet) t e asks calm = absurd calm
-accepted w s (no_experiment quiet h) t e asks calm = absurd (calm_refusal w t e asks s h calm)
+accepted w s (no_experiment quiet h) t e asks calm = absurd (subst IsUndisturbed (refusal w t e asks s h).0 calm)
 accepted w s (ended u f k h) t e asks calm = judged w t e s (came w t e asks s u f k h) calm
 
 -- What a complete journal tells of a guest up to the end of a host tick.
-traced : (e : Experiment) (images : List (List ℕ)) (n : ℕ) (j : List Entry) → IsComplete (run_rules e (placed e) images n) j
-    → (t : ℕ) → t ≤ n → (g : ℕ) → g < length e.guests.items → IsTraced e images t g (up_to_tick t j)
-traced e images n j complete t few g lt =
-    let r = run_rules e (placed e) images n in
+traced : (e : Experiment) (i : Inputs) (n : ℕ) (j : List Entry) → IsComplete (run_rules e (placed e) i n) j
+    → (t : ℕ) → t ≤ n → (g : ℕ) → g < length e.guests.items → IsTraced e i t g (up_to_tick t j)
+traced e i n j complete t few g lt =
+    let r = run_rules e (placed e) i n in
     let told = tells r (up_to_tick t j) g (record { ticks = refl; trace = refl }) (legal_up_to r j start t complete.legal) in
     record {
       virtual_tick = count_of g (up_to_tick t j);
@@ -217,14 +210,14 @@ printed w n e asks (ended u f k h) =
     let run = (came w (Run n) e asks Done u f k h).1 in
     let (head, head_is, (journal, complete, text)) = run.holds in
     record {
-      images = run.images;
+      inputs = run.inputs;
       loaded = run.loaded;
       head = head;
       head_is = head_is;
       journal = journal;
       text = text;
       schedule = complete;
-      traces = traced e run.images n journal complete;
+      traces = traced e run.inputs n journal complete;
     }
 
 -- What was put where memory or the output failed.
@@ -237,7 +230,7 @@ cut_short w s (ended t e k h) (inr failed) = inr (record { task = t; experiment 
 pub headline : {w : World} {s : Status} → Ends w s → (s ≢ WriteFault → w.out_after.faults ≡ w.out.faults) → Headline w s
 headline {w} {s} ends unfailed = record {
   accepted = accepted w s ends;
-  runs = λ e may enough calm. elim (done_or_hurt w e may enough s ends) [ inl done ↦ done | inr hurt ↦ absurd ((of_hurt w s hurt).0 calm) ];
+  runs = λ e may enough calm. elim (done_or_hurt w e may enough s ends) [ inl done ↦ done | inr hurt ↦ absurd (hurt.0 calm) ];
   printed = λ n e asks done. printed w n e asks (subst (λ (z : Status). Ends w z) done ends);
   cut_short = cut_short w s ends;
   unfailed = unfailed;
@@ -267,13 +260,11 @@ ends_told {w} {r} ends (inr (memory, made)) = subst (λ (z : Status). Ends w z) 
 pub unfailed_told : {r s : Status} {A : Type 0} → (r ≢ WriteFault → A) → (s ≡ r) ⊎ ((s ≡ Memory) × (is_made r ≡ true)) → s ≢ WriteFault → A
 unfailed_told unfailed (inl same) other = unfailed (λ fault. other (same ∙ fault))
 unfailed_told unfailed (inr (memory, made)) other =
-    unfailed (λ fault.
-    let wrong : false ≡ true = subst (λ (z : Status). is_made z ≡ true) fault made in
-    cc wrong)
+    unfailed (λ fault. cc (subst (λ (z : Status). is_made z ≡ true) fault made))
 
 -- where a device is wanting, it is so of an experiment that a file says
 pub short_of : {w : World} (k : Kind) (wanted had : ℕ) → Ends w (Build (build.NoDevice k wanted had))
-    → (b : List ℕ) × (e : Experiment) × Says b e × IsShort (length e.guests.items) w.stock.0 w.stock.1 (build.NoDevice k wanted had)
+    → (b : List ℕ) × (e : Experiment) × Says b e × IsShort e w.stock (build.NoDevice k wanted had)
 short_of k wanted had (no_experiment quiet h) = absurd h
 short_of k wanted had (ended Plan e asked h) = absurd h
 short_of k wanted had (ended (Run n) e asked h) = (asked.bytes, e, asked.says, h.2.holds)

@@ -1,6 +1,3 @@
 pub mod Claims
-pub mod Endings
-pub mod Few
-pub mod Images
+pub mod Loading
 pub mod Putting
-pub mod Room

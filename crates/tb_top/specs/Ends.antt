@@ -2,12 +2,13 @@
 use Rattle.std.specs.Prelude.{◌≡◌, ℕ, ◌≤◌, ◌⊎◌, List, length, Option, Some, Err, slice_get}
 use Rattle.tb_io.specs.Causes.{Rose}
 use Rattle.exp_file.specs.Reading.{reading}
+use Rattle.exp_file.specs.declared.disk_spec.DiskSpec.{DiskSpec}
 use Rattle.exp_file.specs.declared.experiment.Experiment.{Experiment}
 use Rattle.exp_file.specs.declared.guest_spec.GuestSpec.{GuestSpec}
 use Rattle.host_plan.specs.Fits.{Fits, IsFirstOverload}
 use Rattle.host_plan.specs.Placing.{placed}
 use Rattle.plan_text.specs.Puts.{PutsPlan, PutsPlanPart}
-use Rattle.bench_build.specs.Answers.{IsTaken}
+use Rattle.bench_build.specs.Answers.{IsTaken, Fills}
 use Rattle.bench_build.specs.Stocks.{Suffices}
 use Rattle.tb_top.specs.declared.status.FileId.TheVariants as file
 use Rattle.tb_top.specs.declared.status.Status.{Status}
@@ -16,7 +17,7 @@ use Rattle.tb_top.specs.declared.words.Task.{Task}
 use Rattle.tb_top.specs.declared.words.Task.TheVariants.{Run, Plan}
 use Rattle.tb_top.specs.Benches.{Unbuilt, PutsRun, PutsRunPart}
 use Rattle.tb_top.specs.Plans.{Plans}
-use Rattle.tb_top.specs.Reads.{IsRead, HasRead, IsTooLong, FailedAt, Says, experiment_limit, image_limit}
+use Rattle.tb_top.specs.Reads.{IsRead, HasRead, IsTooLong, FailedAt, Says, experiment_limit, image_limit, disk_limit}
 use Rattle.tb_top.specs.Words.{Gives, IsCommand}
 use Rattle.tb_top.specs.World.{FilesSeen, World, Quiet}
 
@@ -80,10 +81,20 @@ pub record IsPartPut (w : World) : Type 0 where
   pub asked : IsAsked w.words w.files.held task experiment
   pub part : PutsTaskPart w task experiment
 
--- the images of the guests are told and within their limit, and each is taken
+-- a file is told, within its limit, and this holds of its bytes
+pub record IsTold (told : Option (List ℕ)) (limit : ℕ) (P : List ℕ → Type 0) : Type 0 where
+  pub bytes : List ℕ
+  pub told_is : told ≡ Some bytes
+  pub short : length bytes ≤ limit
+  pub holds : P bytes
+
+-- it is so of the images of the guests, and each is taken
 abbrev pub AreTold : (List ℕ → Option (List ℕ)) → List GuestSpec → Type 0
-AreTold held guests =
-    (i : ℕ) (g : GuestSpec) → slice_get guests i ≡ Some g → (b : List ℕ) × (held g.image ≡ Some b) × (length b ≤ image_limit) × IsTaken g b
+AreTold held guests = (i : ℕ) (g : GuestSpec) → slice_get guests i ≡ Some g → IsTold (held g.image) image_limit (IsTaken g)
+
+-- and of the images of those disks that have one, and each is no longer than its disk
+abbrev pub DisksAreTold : (List ℕ → Option (List ℕ)) → List DiskSpec → Type 0
+DisksAreTold held disks = (j : ℕ) (d : DiskSpec) (name : List ℕ) → slice_get disks j ≡ Some d → d.image ≡ Some name → IsTold (held name) disk_limit (Fills d)
 
 -- the words ask for this task, and its file is told, within its limit, and says this experiment
 pub record Asks (words : List (List ℕ)) (held : List ℕ → Option (List ℕ)) (task : Task) (e : Experiment) : Type 0 where
@@ -98,12 +109,13 @@ pub record Asks (words : List (List ℕ)) (held : List ℕ → Option (List ℕ)
 abbrev pub AsksPlan : List (List ℕ) → (List ℕ → Option (List ℕ)) → Experiment → Type 0
 AsksPlan words held e = Asks words held Plan e
 
--- they ask for a run whose placement fits, and its images are taken
+-- they ask for a run whose placement fits, and its images and disks are taken
 pub record MayRun (words : List (List ℕ)) (held : List ℕ → Option (List ℕ)) (e : Experiment) : Type 0 where
   pub host_ticks : ℕ
   pub asks : Asks words held (Run host_ticks) e
   pub fits : Fits e (placed e)
   pub images : AreTold held e.guests.items
+  pub disks : DisksAreTold held e.disks.items
 
 -- no file was at fault, and no put to out failed
 abbrev pub FilesServed : World → Type 0
@@ -114,7 +126,7 @@ OutServed w = ¬ Rose w.out.faults w.out_after.faults
 
 -- where all that is told is right, there are devices enough, and nothing fails, a run comes to its end, or finds no memory
 abbrev pub Completes : World → Status → Type 0
-Completes w s = (e : Experiment) → MayRun w.words w.files.held e → Suffices (length e.guests.items) w.stock.0 w.stock.1 →
+Completes w s = (e : Experiment) → MayRun w.words w.files.held e → Suffices e w.stock →
     FilesServed w → OutServed w → (s ≡ Done) ⊎ (s ≡ Memory)
 
 -- where the file of a plan is told and right and no file fails, the plan is put and the status says whether it fits, but for a failed put and

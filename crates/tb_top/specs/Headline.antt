@@ -14,6 +14,7 @@ use Rattle.host_journal.specs.Printed.{recs_of, units_of, count_of, up_to_tick}
 use Rattle.host_journal.specs.Texts.{journal_text}
 use Rattle.host_journal.specs.declared.head.Head.{Head}
 use Rattle.slot_sched.specs.Legal.{IsComplete}
+use Rattle.bench_build.specs.Inputs.{Inputs}
 use Rattle.bench_build.specs.Setups.{setup, run_rules}
 use Rattle.bench_build.specs.Stocks.{Suffices}
 use Rattle.tb_top.specs.Ends.{Asks, MayRun, IsPartPut}
@@ -41,30 +42,30 @@ pub record IsJudged (e : Experiment) (s : Status) : Type 0 where
 
 -- the records that some entries print of guest g are its trace in the synchronous system up to some virtual tick, at least t / factor. It is the count that was
 -- printed last of the guest, and what the units printed of it pay for, so the entries fix it
-pub record IsTraced (e : Experiment) (images : List (List ℕ)) (t g : ℕ) (es : List Entry) : Type 0 where
+pub record IsTraced (e : Experiment) (i : Inputs) (t g : ℕ) (es : List Entry) : Type 0 where
   pub virtual_tick : ℕ
-  pub records : recs_of g es ≡ trace machine_motion (setup e images) g virtual_tick
+  pub records : recs_of g es ≡ trace machine_motion (setup e i) g virtual_tick
   pub far_enough : t / e.factor ≤ virtual_tick
   pub counted : virtual_tick ≡ count_of g es
-  pub paid : virtual_tick ≡ ticks_by machine_motion (setup e images) g (units_of g es)
+  pub paid : virtual_tick ≡ ticks_by machine_motion (setup e i) g (units_of g es)
 
 -- of a run of n host ticks, out has taken the text of a journal. Its schedule is legal and comes to its end, and after every host tick each guest is traced
 pub record IsPrinted (w : World) (n : ℕ) (e : Experiment) : Type 0 where
-  pub images : List (List ℕ)
-  pub loaded : AreLoaded w.files.held e.guests.items images
+  pub inputs : Inputs
+  pub loaded : AreLoaded w.files.held e.guests.items e.disks.items inputs
   pub head : Head
   pub head_is : IsHead e n head
   pub journal : List Entry
   pub text : Takes w.out.taken w.out_after.taken (journal_text head journal)
-  pub schedule : IsComplete (run_rules e (placed e) images n) journal
-  pub traces : (t : ℕ) → t ≤ n → (g : ℕ) → g < length e.guests.items → IsTraced e images t g (up_to_tick t journal)
+  pub schedule : IsComplete (run_rules e (placed e) inputs n) journal
+  pub traces : (t : ℕ) → t ≤ n → (g : ℕ) → g < length e.guests.items → IsTraced e inputs t g (up_to_tick t journal)
 
--- of the experiment e in the file that the words name: the placement is accepted exactly where it fits; an accepted run whose images load and whose devices
--- suffice is done; what it then printed; what was printed where memory or the output failed, nothing or a first part of a legal journal or of the plan; and
+-- of the experiment e in the file that the words name: the placement is accepted exactly where it fits; an accepted run whose images and disks load and whose
+-- devices suffice is done; what it then printed; what was printed where memory or the output failed, nothing or a first part of a legal journal or of the plan; and
 -- only where a write fault is told may a put to the output have failed
 pub record Headline (w : World) (s : Status) : Type 0 where
   pub accepted : (task : Task) (e : Experiment) → Asks w.words w.files.held task e → IsUndisturbed s → IsJudged e s
-  pub runs : (e : Experiment) → MayRun w.words w.files.held e → Suffices (length e.guests.items) w.stock.0 w.stock.1 → IsUndisturbed s → s ≡ Done
+  pub runs : (e : Experiment) → MayRun w.words w.files.held e → Suffices e w.stock → IsUndisturbed s → s ≡ Done
   pub printed : (n : ℕ) (e : Experiment) → Asks w.words w.files.held (Run n) e → s ≡ Done → IsPrinted w n e
   pub cut_short : (s ≡ Memory) ⊎ (s ≡ WriteFault) → Quiet w ⊎ IsPartPut w
   pub unfailed : s ≢ WriteFault → w.out_after.faults ≡ w.out.faults

@@ -86,6 +86,7 @@ kind_word kind.Net = codes "net"
 
 unfoldable pub build_words : BuildFault → List ℕ
 build_words (build.Image guest fault) = codes "image " ++ decimal guest ++ image_words fault
+build_words (build.DiskSize disk len room) = codes "disk " ++ decimal disk ++ codes ": " ++ decimal len ++ codes " bytes, room " ++ decimal room
 build_words (build.NoDevice k wanted had) = codes "stock: " ++ kind_word k ++ codes " wanted " ++ decimal wanted ++ codes ", had " ++ decimal had
 build_words build.NoMemory = codes "out of memory"
 

@@ -1,19 +1,24 @@
 -- Files that were read, and what they say.
-use Rattle.std.specs.Prelude.{◌≡◌, ℕ, ◌<◌, ◌≤◌, List, length, take, Option, Some, IfSome, Ok, slice_get}
+use Rattle.std.specs.Prelude.{◌≡◌, ℕ, ◌<◌, ◌≤◌, List, [], length, take, Option, Some, None, IfSome, Ok, slice_get}
 use Rattle.std.specs.List.{AllZip}
 use Rattle.tb_io.specs.Causes.{Rose}
 use Rattle.exp_file.specs.Reading.{reading}
 use Rattle.exp_file.specs.declared.experiment.Experiment.{Experiment}
+use Rattle.exp_file.specs.declared.disk_spec.DiskSpec.{DiskSpec}
 use Rattle.exp_file.specs.declared.guest_spec.GuestSpec.{GuestSpec}
-use Rattle.bench_build.specs.Answers.{IsTaken}
+use Rattle.bench_build.specs.Answers.{IsTaken, Fills}
+use Rattle.bench_build.specs.Inputs.{Inputs}
 use Rattle.tb_top.specs.World.{FilesSeen}
 
--- the bytes that an experiment file may have, and an image
+-- the bytes that an experiment file may have, an image, and what a disk holds at first
 abbrev pub experiment_limit : ℕ
 experiment_limit = 1048576
 
 abbrev pub image_limit : ℕ
 image_limit = 33554432
+
+abbrev pub disk_limit : ℕ
+disk_limit = 16777216
 
 -- the bytes that were read of a file within a limit: the told ones, where they are told
 pub record IsRead (told : Option (List ℕ)) (limit : ℕ) (b : List ℕ) : Type 0 where
@@ -44,14 +49,32 @@ pub record IsLoaded (held : List ℕ → Option (List ℕ)) (g : GuestSpec) (b :
   pub read : IsRead (held g.image) image_limit b
   pub taken : IsTaken g b
 
--- the images of some guests were read, and each is taken
-abbrev pub AreLoaded : (List ℕ → Option (List ℕ)) → List GuestSpec → List (List ℕ) → Type 0
-AreLoaded held guests images = AllZip (IsLoaded held) guests images
+-- what a disk holds at first: the bytes of its image, or none where it has no image
+abbrev pub IsContent : (List ℕ → Option (List ℕ)) → Option (List ℕ) → List ℕ → Type 0
+IsContent held None b = b ≡ []
+IsContent held (Some name) b = IsRead (held name) disk_limit b
 
--- the images before that of guest i were taken, and of that guest something holds
-pub record Stops (held : List ℕ → Option (List ℕ)) (guests : List GuestSpec) (i : ℕ) (P : GuestSpec → Type 0) : Type 0 where
-  pub images : List (List ℕ)
-  pub loaded : AreLoaded held (take i guests) images
-  pub guest : GuestSpec
-  pub at : slice_get guests i ≡ Some guest
-  pub why : P guest
+-- it was read, and is no longer than the disk
+pub record IsFilled (held : List ℕ → Option (List ℕ)) (d : DiskSpec) (b : List ℕ) : Type 0 where
+  pub read : IsContent held d.image b
+  pub fills : Fills d b
+
+-- the images of some guests and the content of some disks were read, and all were taken
+pub record AreLoaded (held : List ℕ → Option (List ℕ)) (guests : List GuestSpec) (disks : List DiskSpec) (i : Inputs) : Type 0 where
+  pub images : AllZip (IsLoaded held) guests i.images
+  pub disks : AllZip (IsFilled held) disks i.disks
+
+-- what comes before the i-th of some things was taken, and of this thing something holds
+pub record Stops {A : Type 0} (Before : List A → Inputs → Type 0) (things : List A) (i : ℕ) (P : A → Type 0) : Type 0 where
+  pub inputs : Inputs
+  pub before : Before (take i things) inputs
+  pub thing : A
+  pub at : slice_get things i ≡ Some thing
+  pub why : P thing
+
+-- the images of the guests before this one were taken; all images, and what the disks before this one hold
+abbrev pub StopsAtGuest : (List ℕ → Option (List ℕ)) → Experiment → ℕ → (GuestSpec → Type 0) → Type 0
+StopsAtGuest held e = Stops (λ guests. AreLoaded held guests []) e.guests.items
+
+abbrev pub StopsAtDisk : (List ℕ → Option (List ℕ)) → Experiment → ℕ → (DiskSpec → Type 0) → Type 0
+StopsAtDisk held e = Stops (AreLoaded held e.guests.items) e.disks.items

@@ -5,8 +5,8 @@ use Rattle.tb_io.specs.declared.files.ReadErr.TheVariants as read
 use Rattle.host_plan.specs.declared.overload.Overload.{Overload as Over}
 use Rattle.bench_build.specs.declared.build_fault.BuildFault.{BuildFault}
 use Rattle.bench_build.specs.declared.build_fault.BuildFault.TheVariants as build
-use Rattle.tb_top.specs.declared.run.RunErr.{RunErr}
-use Rattle.tb_top.specs.declared.run.RunErr.TheVariants as run
+use Rattle.tb_io.specs.declared.write_err.WriteErr.{WriteErr}
+use Rattle.tb_io.specs.declared.write_err.WriteErr.TheVariants as write
 use Rattle.tb_top.specs.declared.status.FileId.{FileId}
 use Rattle.tb_top.specs.declared.status.Status.{Status}
 use Rattle.tb_top.specs.declared.status.Status.TheVariants.{Done, Overload, Build, TooLong, ReadFault, WriteFault, Memory}
@@ -27,10 +27,10 @@ build_status build.NoMemory = Memory
 build_status f = Build f
 
 -- of a bench that was run
-abbrev pub run_status : Result (Unit {0}) RunErr → Status
+abbrev pub run_status : Result (Unit {0}) WriteErr → Status
 run_status (Ok _) = Done
-run_status (Err run.NoMemory) = Memory
-run_status (Err run.WriteFailed) = WriteFault
+run_status (Err write.NoMemory) = Memory
+run_status (Err write.Failed) = WriteFault
 
 -- memory ran out, or this holds of the status
 abbrev pub OrMemory : (Status → Type 0) → Status → Type 0

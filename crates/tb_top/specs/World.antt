@@ -1,5 +1,7 @@
 -- What is seen of files and of sinks, and all that the clauses of the top call speak of.
-use Rattle.std.specs.Prelude.{◌≡◌, ℕ, List, map, length, Option, String, string_bytes, Vec}
+use Rattle.std.specs.Prelude.{◌≡◌, ℕ, List, [], ◌∷◌, map, Option, String, string_bytes, Vec}
+use Rattle.dev_face.specs.declared.kind.Kind.{Kind}
+use Rattle.bench_build.specs.Stocks.{counts}
 use Rattle.tb_io.specs.declared.files.Files.{Ghosts as FilesWords}
 use Rattle.tb_io.specs.declared.sink.Sink.{Ghosts as SinkWords}
 
@@ -20,16 +22,16 @@ files_seen G files = record { held = G.held files; faults = G.faults files; faul
 abbrev pub sink_seen : {O : Type 0} → SinkWords O → O → SinkSeen
 sink_seen G sink = record { taken = G.taken sink; faults = G.faults sink }
 
--- the words, the files before and after the call, out before and after it, and how many Clints and Uarts there are
+-- the words, the files before and after the call, out before and after it, and how many devices there are of each kind
 pub record World : Type 0 where
   pub words : List (List ℕ)
   pub files : FilesSeen
   pub files_after : FilesSeen
   pub out : SinkSeen
   pub out_after : SinkSeen
-  pub stock : ℕ × ℕ
+  pub stock : Kind → ℕ
 
-abbrev pub world : {F O : Type 0} → List (List ℕ) → FilesWords F → F → F → SinkWords O → O → O → ℕ × ℕ → World
+abbrev pub world : {F O : Type 0} → List (List ℕ) → FilesWords F → F → F → SinkWords O → O → O → (Kind → ℕ) → World
 world words G files files_after H out out_after stock = record {
   words = words;
   files = files_seen G files;
@@ -39,9 +41,12 @@ world words G files files_after H out out_after stock = record {
   stock = stock;
 }
 
--- how many devices there are in two lists
-abbrev pub sizes : {A Y B Z : Type 0} → Vec A Y → Vec B Z → ℕ × ℕ
-sizes clints uarts = (length clints.items, length uarts.items)
+-- the lists of a stock in the order of the kinds, and how many devices there are in them
+abbrev pub by_kind : {A Z : Type 0} → Vec A Z → Vec A Z → Vec A Z → Vec A Z → List (List A)
+by_kind clints uarts blks nets = clints.items ∷ uarts.items ∷ blks.items ∷ nets.items ∷ []
+
+abbrev pub sizes : {A Z : Type 0} → Vec A Z → Vec A Z → Vec A Z → Vec A Z → Kind → ℕ
+sizes clints uarts blks nets = counts (by_kind clints uarts blks nets)
 
 -- the bytes of words
 abbrev pub texts : {Z : Type 0} → List (String Z) → List (List ℕ)

@@ -1,9 +1,9 @@
-//! The images of a run.
-ghost use Rattle.std.specs.Prelude.{◌≡◌, ◌<◌, ◌≤◌, ◌+◌, true, ℕ, List, length, take, OnOk, IfOk, IfErr};
+//! What a run reads: the images of its guests and the content of its disks.
+ghost use Rattle.std.specs.Prelude.{◌≡◌, ◌<◌, ◌≤◌, ◌+◌, true, ℕ, List, [], length, take, OnOk, IfOk, IfErr};
 ghost use Rattle.exp_file.specs.Reading.{is_built};
 ghost use Rattle.exp_file.specs.WellFormed.{IsWellFormed};
 ghost use Rattle.host_plan.specs.Fits.{Fits, IsPlacement};
-ghost use Rattle.bench_build.specs.Building.{added, wanted};
+ghost use Rattle.bench_build.specs.Building.{images_wanted, images_added, disks_wanted, disks_added};
 ghost use Rattle.tb_top.specs.Loads.{HasTaken, Unloaded};
 ghost use Rattle.tb_top.specs.Statuses.{OrMemory};
 ghost use Rattle.tb_top.specs.World.{files_seen};
@@ -16,25 +16,30 @@ use std::alloc::Global;
 use tb_base::limits::IMAGE_FILE;
 use tb_io::Files;
 
+/// Most bytes of a file with the first content of a disk.
+const DISK_FILE: usize = 16_777_216;
+
 /// Reads the image of the guest of this number, the next one, and hands it to the builder.
 fn load_image<F: Files>(
     alloc: Global,
     files: &mut F,
     e: &Experiment,
     guest: usize,
-    builder: &mut Builder,
+    builder: &mut Builder<'_>,
 ) -> Result<(), Status>
     requires guest { guest < length e.now.guests.items }
     requires few { length e.now.guests.items ≤ 32 }
-    requires next { added builder.old ≡ guest }
-    requires all { wanted builder.old ≡ length e.now.guests.items }
-    ensures taken { OnOk result ((slots : List ℕ) → HasTaken (files_seen F.Files files.old) (take guest e.now.guests.items) e.now slots builder.old →
-        HasTaken (files_seen F.Files files.new) (take (guest + 1) e.now.guests.items) e.now slots builder.new) }
-    ensures missed { IfErr result (λ s. (slots : List ℕ) → HasTaken (files_seen F.Files files.old) (take guest e.now.guests.items) e.now slots builder.old →
-        OrMemory (Unloaded (files_seen F.Files files.old) (files_seen F.Files files.new) e.now.guests.items) s) }
+    requires next { images_added builder.old ≡ guest }
+    requires all { images_wanted builder.old ≡ length e.now.guests.items }
+    ensures taken { OnOk result ((slots : List ℕ) → HasTaken (files_seen F.Files files.old) (take guest e.now.guests.items) [] e.now slots builder.old →
+        HasTaken (files_seen F.Files files.new) (take (guest + 1) e.now.guests.items) [] e.now slots builder.new) }
+    ensures missed { IfErr result (λ s. (slots : List ℕ) → HasTaken (files_seen F.Files files.old) (take guest e.now.guests.items) [] e.now slots builder.old →
+        OrMemory (Unloaded (files_seen F.Files files.old) (files_seen F.Files files.new) e.now) s) }
     ensures same { OnOk result (files_seen F.Files files.new ≡ files_seen F.Files files.old) }
-    ensures wanted { wanted builder.new ≡ wanted builder.old }
-    ensures added { OnOk result (added builder.new ≡ added builder.old + 1) }
+    ensures images_wanted { images_wanted builder.new ≡ images_wanted builder.old }
+    ensures disks_wanted { disks_wanted builder.new ≡ disks_wanted builder.old }
+    ensures images_added { OnOk result (images_added builder.new ≡ images_added builder.old + 1) }
+    ensures disks_added { disks_added builder.new ≡ disks_added builder.old }
 {
     let guests = e.guests.as_slice();
     let spec = &guests[guest];
@@ -48,21 +53,65 @@ fn load_image<F: Files>(
     }
 }
 
-/// A builder of an experiment that has taken all its images.
-pub(crate) fn load_images<F: Files>(
+/// Reads what the disk of this number, the next one, holds at first, and hands it to the builder. A
+/// disk without an image reads nothing.
+fn load_disk<F: Files>(
     alloc: Global,
     files: &mut F,
     e: &Experiment,
-    p: &Placement,
-) -> Result<Builder, Status>
+    disk: usize,
+    builder: &mut Builder<'_>,
+) -> Result<(), Status>
+    requires disk { disk < length e.now.disks.items }
+    requires few { length e.now.disks.items ≤ 64 }
+    requires next { disks_added builder.old ≡ disk }
+    requires all { disks_wanted builder.old ≡ length e.now.disks.items }
+    ensures taken { OnOk result ((slots : List ℕ) → HasTaken (files_seen F.Files files.old) e.now.guests.items (take disk e.now.disks.items) e.now slots builder.old →
+        HasTaken (files_seen F.Files files.new) e.now.guests.items (take (disk + 1) e.now.disks.items) e.now slots builder.new) }
+    ensures missed { IfErr result (λ s. (slots : List ℕ) → HasTaken (files_seen F.Files files.old) e.now.guests.items (take disk e.now.disks.items) e.now slots builder.old →
+        OrMemory (Unloaded (files_seen F.Files files.old) (files_seen F.Files files.new) e.now) s) }
+    ensures same { OnOk result (files_seen F.Files files.new ≡ files_seen F.Files files.old) }
+    ensures images_wanted { images_wanted builder.new ≡ images_wanted builder.old }
+    ensures disks_wanted { disks_wanted builder.new ≡ disks_wanted builder.old }
+    ensures images_added { images_added builder.new ≡ images_added builder.old }
+    ensures disks_added { OnOk result (disks_added builder.new ≡ disks_added builder.old + 1) }
+{
+    let disks = e.disks.as_slice();
+    let spec = &disks[disk];
+    let Some(name) = &spec.image else {
+        return match builder.add_disk(None) {
+            Ok(()) => Ok(()),
+            Err(fault) => Err(build_status(fault)),
+        };
+    };
+    let bytes = match files.read(alloc, name.as_str(), DISK_FILE) {
+        Ok(bytes) => bytes,
+        Err(fault) => return Err(read_status(FileId::Disk(disk as u32), fault)),
+    };
+    match builder.add_disk(Some(bytes.as_slice())) {
+        Ok(()) => Ok(()),
+        Err(fault) => Err(build_status(fault)),
+    }
+}
+
+/// A builder of an experiment that has taken all its images.
+fn load_images<'a, F: Files>(
+    alloc: Global,
+    files: &mut F,
+    e: &'a Experiment,
+    p: &'a Placement,
+) -> Result<Builder<'a>, Status>
     requires well_formed { IsWellFormed e.now }
     requires built { is_built e.now ≡ true }
     requires placement { IsPlacement e.now p.now.slots.items }
     requires fits { Fits e.now p.now.slots.items }
-    ensures taken { IfOk result (HasTaken (files_seen F.Files files.old) e.now.guests.items e.now p.now.slots.items) }
-    ensures missed { IfErr result (OrMemory (Unloaded (files_seen F.Files files.old) (files_seen F.Files files.new) e.now.guests.items)) }
-    ensures all { IfOk result (λ b. added b ≡ wanted b) }
-    ensures wanted { IfOk result (λ b. wanted b ≡ length e.now.guests.items) }
+    ensures taken { IfOk result (HasTaken (files_seen F.Files files.old) e.now.guests.items [] e.now p.now.slots.items) }
+    ensures missed { IfErr result (OrMemory (Unloaded (files_seen F.Files files.old) (files_seen F.Files files.new) e.now)) }
+    ensures same { OnOk result (files_seen F.Files files.new ≡ files_seen F.Files files.old) }
+    ensures images_wanted { IfOk result (λ b. images_wanted b ≡ length e.now.guests.items) }
+    ensures disks_wanted { IfOk result (λ b. disks_wanted b ≡ length e.now.disks.items) }
+    ensures images_added { IfOk result (λ b. images_added b ≡ length e.now.guests.items) }
+    ensures disks_added { IfOk result (λ b. disks_added b ≡ 0) }
 {
     let mut builder = match Builder::new(alloc, e, p) {
         Ok(builder) => builder,
@@ -70,6 +119,37 @@ pub(crate) fn load_images<F: Files>(
     };
     for guest in 0..e.guests.len() {
         match load_image(alloc, files, e, guest, &mut builder) {
+            Ok(()) => (),
+            Err(status) => return Err(status),
+        }
+    }
+    Ok(builder)
+}
+
+/// A builder of an experiment that has taken all that is read for it: its images, then what its
+/// disks hold at first.
+pub(crate) fn load<'a, F: Files>(
+    alloc: Global,
+    files: &mut F,
+    e: &'a Experiment,
+    p: &'a Placement,
+) -> Result<Builder<'a>, Status>
+    requires well_formed { IsWellFormed e.now }
+    requires built { is_built e.now ≡ true }
+    requires placement { IsPlacement e.now p.now.slots.items }
+    requires fits { Fits e.now p.now.slots.items }
+    ensures taken { IfOk result (HasTaken (files_seen F.Files files.old) e.now.guests.items e.now.disks.items e.now p.now.slots.items) }
+    ensures missed { IfErr result (OrMemory (Unloaded (files_seen F.Files files.old) (files_seen F.Files files.new) e.now)) }
+    ensures images { IfOk result (λ b. images_added b ≡ images_wanted b) }
+    ensures disks { IfOk result (λ b. disks_added b ≡ disks_wanted b) }
+    ensures guests { IfOk result (λ b. images_wanted b ≡ length e.now.guests.items) }
+{
+    let mut builder = match load_images(alloc, files, e, p) {
+        Ok(builder) => builder,
+        Err(status) => return Err(status),
+    };
+    for disk in 0..e.disks.len() {
+        match load_disk(alloc, files, e, disk, &mut builder) {
             Ok(()) => (),
             Err(status) => return Err(status),
         }

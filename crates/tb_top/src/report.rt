@@ -1,6 +1,5 @@
 //! The line of a status.
 ghost use Rattle.std.specs.Prelude.{◌≡◌, ◌++◌, ◌⊎◌, ℕ, map, take, IfOk, OnOk, true};
-ghost use Rattle.std.specs.Fmt.{decimal};
 ghost use Rattle.tb_top.specs.Lines.{file_words, fault_words, build_words, image_words, header_words, shown_key, shown_byte};
 ghost use Rattle.tb_top.specs.Lines.{status_line, is_made, SaysLine, Told};
 
@@ -12,7 +11,7 @@ use exp_file::ExpFault;
 use std::alloc::Global;
 use tb_base::{Bytes, NoMemory};
 use tb_io::Sink;
-use tb_text::put_dec;
+use tb_text::put_field;
 
 const WRITE_FAULT: &[u8; 21] = b"diecast: write fault\n";
 
@@ -70,9 +69,9 @@ fn line_of(alloc: Global, status: &Status) -> Result<Bytes, NoMemory>
     match status {
         Status::Done | Status::WriteFault | Status::Memory => unreachable!(),
         Status::Overload { slot, need, have } => {
-            add(&mut line, b"diecast: overload: slot ", u64::from(*slot))?;
-            add(&mut line, b" needs ", *need)?;
-            add(&mut line, b", has ", *have)?;
+            put_field(&mut line, b"diecast: overload: slot ", u64::from(*slot))?;
+            put_field(&mut line, b" needs ", *need)?;
+            put_field(&mut line, b", has ", *have)?;
         }
         Status::Usage(fault) => {
             line.push_slice(b"diecast: usage: ")?;
@@ -99,22 +98,13 @@ fn line_of(alloc: Global, status: &Status) -> Result<Bytes, NoMemory>
     Ok(line)
 }
 
-/// Adds a word and a number to a line.
-fn add(line: &mut Bytes, word: &[u8], n: u64) -> Result<(), NoMemory>
-    ensures { OnOk result (line.new ≡ line.old ++ word.now ++ decimal n) }
-{
-    line.push_slice(word)?;
-    put_dec(line, n)?;
-    Ok(())
-}
-
 /// Adds why an experiment file is refused, and where in it.
 #[tactic(auto, unfolding(crate::specs::Lines::fault_words))]
 fn add_fault(line: &mut Bytes, fault: &ExpFault) -> Result<(), NoMemory>
     ensures { OnOk result (line.new ≡ line.old ++ fault_words fault.now) }
 {
     line.push_slice(why_word(fault.why).as_bytes())?;
-    add(
+    put_field(
         line,
         section_word(fault.section).as_bytes(),
         u64::from(fault.index),
@@ -151,14 +141,19 @@ fn add_build(line: &mut Bytes, fault: &BuildFault) -> Result<(), NoMemory>
 {
     match fault {
         BuildFault::Image { guest, fault } => {
-            add(line, b"image ", u64::from(*guest))?;
+            put_field(line, b"image ", u64::from(*guest))?;
             add_image(line, *fault)?;
+        }
+        BuildFault::DiskSize { disk, len, room } => {
+            put_field(line, b"disk ", u64::from(*disk))?;
+            put_field(line, b": ", *len)?;
+            put_field(line, b" bytes, room ", *room)?;
         }
         BuildFault::NoDevice { kind, wanted, had } => {
             line.push_slice(b"stock: ")?;
             line.push_slice(kind_word(*kind).as_bytes())?;
-            add(line, b" wanted ", u64::from(*wanted))?;
-            add(line, b", had ", u64::from(*had))?;
+            put_field(line, b" wanted ", u64::from(*wanted))?;
+            put_field(line, b", had ", u64::from(*had))?;
         }
         BuildFault::NoMemory => line.push_slice(b"out of memory")?,
     }
@@ -184,7 +179,7 @@ fn add_header(line: &mut Bytes, fault: ElfFault) -> Result<(), NoMemory>
     ensures { OnOk result (line.new ≡ line.old ++ header_words fault) }
 {
     match fault {
-        ElfFault::BadSegment(n) | ElfFault::OutsideRam(n) => add(line, b" ", u64::from(n))?,
+        ElfFault::BadSegment(n) | ElfFault::OutsideRam(n) => put_field(line, b" ", u64::from(n))?,
         _ => (),
     }
     Ok(())
@@ -196,8 +191,8 @@ fn add_file(line: &mut Bytes, file: FileId) -> Result<(), NoMemory>
 {
     match file {
         FileId::Experiment => line.push_slice(b"experiment")?,
-        FileId::Image(i) => add(line, b"image ", u64::from(i))?,
-        FileId::Disk(i) => add(line, b"disk ", u64::from(i))?,
+        FileId::Image(i) => put_field(line, b"image ", u64::from(i))?,
+        FileId::Disk(i) => put_field(line, b"disk ", u64::from(i))?,
     }
     Ok(())
 }

@@ -6,45 +6,30 @@ ghost use Rattle.lookahead_core.specs.Synchronous.{Setup};
 ghost use Rattle.slot_sched.specs.BenchWords.{BenchStands, IsAtTick, plan_of, ticks_made, bench_failed, members_of};
 ghost use Rattle.slot_sched.specs.Legal.{start};
 ghost use Rattle.slot_sched.specs.Schedule.{rules};
+ghost use Rattle.bench_build.specs.Inputs.{Inputs};
 ghost use Rattle.bench_build.specs.Setups.{setup, plan};
-ghost use Rattle.tb_top.specs.Runs.{IsHead, RunPuts, Runs, RunCause};
+ghost use Rattle.tb_io.specs.Causes.{WriteCause};
+ghost use Rattle.tb_top.specs.Runs.{IsHead, RunPuts, Runs};
 
 use dev_face::Device;
 use exp_file::{Experiment, GuestSpec};
 use guest_machine::Machine;
-use host_journal::{Head, JournalKeep, KeepErr, Show};
+use host_journal::{Head, JournalKeep, Show};
 use lookahead_core::Node;
 use slot_sched::{Bench, TickFault};
 use std::alloc::Global;
 use tb_base::{ItemList, Name, NoMemory};
-use tb_io::Sink;
+use tb_io::{Sink, WriteErr};
 use trace_rec::View;
 
-/// Why a run was cut short.
-#[derive(Clone, Copy)]
-pub(crate) enum RunErr {
-    NoMemory,
-    /// A put failed.
-    WriteFailed,
-}
-
-fn of_keeper(e: KeepErr) -> RunErr
-    ensures failed { result ≡ RunErr.WriteFailed → e ≡ KeepErr.Failed }
-    ensures no_memory { result ≡ RunErr.NoMemory → e ≡ KeepErr.NoMemory }
+/// A keeper of a run fails alone where a put of it did.
+fn of_tick(e: TickFault) -> WriteErr
+    ensures failed { result ≡ WriteErr.Failed → e ≡ TickFault.KeepFailed }
+    ensures no_memory { result ≡ WriteErr.NoMemory → e ≡ TickFault.NoMemory }
 {
     match e {
-        KeepErr::NoMemory => RunErr::NoMemory,
-        KeepErr::Failed => RunErr::WriteFailed,
-    }
-}
-
-fn of_tick(e: TickFault) -> RunErr
-    ensures failed { result ≡ RunErr.WriteFailed → e ≡ TickFault.KeepFailed }
-    ensures no_memory { result ≡ RunErr.NoMemory → e ≡ TickFault.NoMemory }
-{
-    match e {
-        TickFault::NoMemory => RunErr::NoMemory,
-        TickFault::KeepFailed => RunErr::WriteFailed,
+        TickFault::NoMemory => WriteErr::NoMemory,
+        TickFault::KeepFailed => WriteErr::Failed,
     }
 }
 
@@ -80,7 +65,7 @@ fn put_run<N: Node, O: Sink, K: Show<O>>(
     bench: Bench<N>,
     host_ticks: u64,
     out: &mut O,
-) -> Result<(), RunErr>
+) -> Result<(), WriteErr>
     requires going { bench_failed bench ≡ false }
     requires fresh { ticks_made bench ≡ 0 }
     requires few { host_ticks ≤ 1000000 }
@@ -88,22 +73,16 @@ fn put_run<N: Node, O: Sink, K: Show<O>>(
     requires made { K.is_fresh keep.old }
     ensures puts { (x : Setup N.State) → BenchStands x bench host_ticks → IsAtTick x bench host_ticks start →
         RunPuts (K.text keep.old) (rules N.motion x (plan_of bench host_ticks))
-        (O.taken out.old) (O.taken out.new) (O.faults out.old) (O.faults out.new) result }
-    ensures cause { RunCause (O.faults out.old) (O.faults out.new) result }
+        (O.taken out.old) (O.taken out.new) result }
+    ensures cause { WriteCause (O.faults out.old) (O.faults out.new) result }
 {
     let mut bench = bench;
-    match keep.start(out) {
-        Ok(()) => (),
-        Err(e) => return Err(of_keeper(e)),
-    }
+    keep.start(out)?;
     match bench.run(keep, out, host_ticks) {
         Ok(()) => (),
         Err(e) => return Err(of_tick(e)),
     }
-    match keep.finish(out) {
-        Ok(()) => Ok(()),
-        Err(e) => Err(of_keeper(e)),
-    }
+    keep.finish(out)
 }
 
 /// Runs a bench for so many host ticks, and puts its journal.
@@ -113,25 +92,25 @@ pub(crate) fn run<O: Sink, D: Device>(
     host_ticks: u64,
     bench: Bench<Machine<D>>,
     out: &mut O,
-) -> Result<(), RunErr>
+) -> Result<(), WriteErr>
     requires well_formed { IsWellFormed e.now }
     requires going { bench_failed bench ≡ false }
     requires fresh { ticks_made bench ≡ 0 }
     requires few { host_ticks ≤ 1000000 }
     requires members { members_of bench ≡ length e.now.guests.items }
-    ensures runs { (slots : List ℕ) (images : List (List ℕ)) →
-        BenchStands (setup e.now images) bench host_ticks → IsAtTick (setup e.now images) bench host_ticks start →
+    ensures runs { (slots : List ℕ) (i : Inputs) →
+        BenchStands (setup e.now i) bench host_ticks → IsAtTick (setup e.now i) bench host_ticks start →
         plan_of bench host_ticks ≡ plan e.now slots host_ticks →
-        Runs e.now slots images host_ticks (O.taken out.old) (O.taken out.new) (O.faults out.old) (O.faults out.new) result }
-    ensures cause { RunCause (O.faults out.old) (O.faults out.new) result }
+        Runs e.now slots i host_ticks (O.taken out.old) (O.taken out.new) result }
+    ensures cause { WriteCause (O.faults out.old) (O.faults out.new) result }
 {
     let head = match head_for(alloc, e, host_ticks) {
         Ok(head) => head,
-        Err(_) => return Err(RunErr::NoMemory),
+        Err(_) => return Err(WriteErr::NoMemory),
     };
     let mut keep = match JournalKeep::new(alloc, head, View::Journal) {
         Ok(keep) => keep,
-        Err(_) => return Err(RunErr::NoMemory),
+        Err(_) => return Err(WriteErr::NoMemory),
     };
     put_run(&mut keep, bench, host_ticks, out)
 }

@@ -2,12 +2,11 @@
 ghost use Rattle.std.specs.Prelude.{◌≡◌};
 ghost use Rattle.tb_top.specs.Statuses.{read_status, over_status, build_status, run_status};
 
-use crate::run::RunErr;
 use crate::words::WordFault;
 use bench_build::BuildFault;
 use exp_file::ExpFault;
 use host_plan::Overload;
-use tb_io::ReadErr;
+use tb_io::{ReadErr, WriteErr};
 
 /// A file that a command reads.
 #[derive(Clone, Copy, Debug, PartialEq, Eq)]
@@ -75,12 +74,12 @@ pub(crate) fn build_status(fault: BuildFault) -> Status
 }
 
 /// The status of a bench that was run.
-pub(crate) fn run_status(ran: Result<(), RunErr>) -> Status
+pub(crate) fn run_status(ran: Result<(), WriteErr>) -> Status
     ensures { result ≡ run_status ran }
 {
     match ran {
         Ok(()) => Status::Done,
-        Err(RunErr::NoMemory) => Status::Memory,
-        Err(RunErr::WriteFailed) => Status::WriteFault,
+        Err(WriteErr::NoMemory) => Status::Memory,
+        Err(WriteErr::Failed) => Status::WriteFault,
     }
 }

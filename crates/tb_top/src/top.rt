@@ -1,16 +1,16 @@
 //! The top call.
-ghost use Rattle.std.specs.Prelude.{◌≡◌, ◌≢◌, map, All};
-ghost use Rattle.dev_face.specs.States.{IsBlankFor};
-ghost use Rattle.dev_face.specs.declared.config.DevConfig.TheVariants as config;
+ghost use Rattle.std.specs.Prelude.{◌≡◌, ◌≢◌, ℕ, ◌≤◌, List};
+ghost use Rattle.exp_file.specs.Lists.{without_room};
+ghost use Rattle.bench_build.specs.Stocks.{IsStock, counts, items_of};
 ghost use Rattle.tb_top.specs.Asking.{IsReady};
-ghost use Rattle.tb_top.specs.Ends.{Ends, Completes, IsPlanned};
+ghost use Rattle.tb_top.specs.Ends.{Ends, Completes, IsAsked, IsPlanned};
 ghost use Rattle.tb_top.specs.Headline.{Headline};
 ghost use Rattle.tb_top.specs.Lines.{Told};
 ghost use Rattle.tb_top.specs.Plans.{Plans};
-ghost use Rattle.tb_top.specs.World.{sink_seen, sizes, texts, world};
+ghost use Rattle.tb_top.specs.World.{by_kind, sink_seen, sizes, texts, world};
 
 use crate::ask::{Asked, ask};
-use crate::load::load_images;
+use crate::load::load;
 use crate::report::tell;
 use crate::run::run;
 use crate::status::{Status, build_status, over_status, run_status};
@@ -24,8 +24,8 @@ use tb_io::{Files, Sink, WriteErr};
 
 /// Runs a command: `words` are its words after the program's own name. What it reads comes from
 /// `files`, what it prints goes to `out`, one whole line a put, and why it did not end well is put
-/// to `msg` as one line. Each guest of a run gets a Clint and a Uart of the stock, all of whose boxes
-/// are blank and of the kind of their list.
+/// to `msg` as one line. Each guest of a run gets a Clint, a Uart and its disks of the stock, all of
+/// whose boxes are blank and of the kind of their list.
 pub fn diecast<F: Files, O: Sink, M: Sink>(
     alloc: Global,
     words: &[String],
@@ -34,23 +34,22 @@ pub fn diecast<F: Files, O: Sink, M: Sink>(
     msg: &mut M,
     stock: Stock,
 ) -> Status
-    requires clints { All (IsBlankFor config.Clint) (map (⟦<Box<dyn Device> as Device>⟧.state) stock.clints.items) }
-    requires uarts { All (IsBlankFor config.Uart) (map (⟦<Box<dyn Device> as Device>⟧.state) stock.uarts.items) }
+    requires stock { IsStock (⟦<Box<dyn Device> as Device>⟧.state) (by_kind stock.clints stock.uarts stock.blks stock.nets) }
 
     // What the status says and what `out` has taken: with `Done`, the text of a complete legal
-    // journal of the very experiment and images that were read, or the plan of that experiment.
-    ensures ends { Ends (world (texts words.now) F.Files files.old files.new O.Sink out.old out.new (sizes stock.clints stock.uarts)) result }
+    // journal of the very experiment, images and disks that were read, or the plan of that experiment.
+    ensures ends { Ends (world (texts words.now) F.Files files.old files.new O.Sink out.old out.new (sizes stock.clints stock.uarts stock.blks stock.nets)) result }
 
     // The sentence that the testbed stands for: the placement is accepted exactly where it fits, and
     // after every host tick of an accepted run each guest's trace is that of the undilated system.
-    ensures headline { Headline (world (texts words.now) F.Files files.old files.new O.Sink out.old out.new (sizes stock.clints stock.uarts)) result }
+    ensures headline { Headline (world (texts words.now) F.Files files.old files.new O.Sink out.old out.new (sizes stock.clints stock.uarts stock.blks stock.nets)) result }
 
     // Where all that is told is right and nothing fails, a run comes to its end, or finds no memory.
-    ensures complete { Completes (world (texts words.now) F.Files files.old files.new O.Sink out.old out.new (sizes stock.clints stock.uarts)) result }
+    ensures complete { Completes (world (texts words.now) F.Files files.old files.new O.Sink out.old out.new (sizes stock.clints stock.uarts stock.blks stock.nets)) result }
 
     // Where the file of a plan is told and right and no file fails, the plan is put and the status
     // says whether it fits, but for a failed put and want of memory.
-    ensures planned { IsPlanned (world (texts words.now) F.Files files.old files.new O.Sink out.old out.new (sizes stock.clints stock.uarts)) result }
+    ensures planned { IsPlanned (world (texts words.now) F.Files files.old files.new O.Sink out.old out.new (sizes stock.clints stock.uarts stock.blks stock.nets)) result }
 
     // A put to `out` that failed is told as a write fault, and as nothing else.
     ensures unfailed { result ≢ Status.WriteFault → O.faults out.new ≡ O.faults out.old }
@@ -59,42 +58,64 @@ pub fn diecast<F: Files, O: Sink, M: Sink>(
     // first part of it. So no fault of `msg` makes the status another one.
     ensures told { Told result (M.taken msg.old) (M.taken msg.new) (M.faults msg.old) (M.faults msg.new) }
 {
-    let status = work(alloc, words, files, out, stock.clints, stock.uarts);
+    let Stock {
+        clints,
+        uarts,
+        blks,
+        nets,
+    } = stock;
+    let status = work(alloc, words, files, out, [clints, uarts, blks, nets]);
     tell(alloc, status, msg)
 }
 
-/// The command, over any devices, but for the line of its status. The experiment of a run is read and
-/// placed, its images are loaded, its bench is built of them and the devices, and run.
+/// The command, over any devices, but for the line of its status.
 fn work<F: Files, O: Sink, D: Device>(
     alloc: Global,
     words: &[String],
     files: &mut F,
     out: &mut O,
-    clints: Vec<D>,
-    uarts: Vec<D>,
+    stock: [Vec<D>; 4],
 ) -> Status
-    requires clints { All (IsBlankFor config.Clint) (map D.state clints.items) }
-    requires uarts { All (IsBlankFor config.Uart) (map D.state uarts.items) }
-    ensures ends { Ends (world (texts words.now) F.Files files.old files.new O.Sink out.old out.new (sizes clints uarts)) result }
+    requires stock { IsStock D.state (items_of stock) }
+    ensures ends { Ends (world (texts words.now) F.Files files.old files.new O.Sink out.old out.new (counts (items_of stock))) result }
     ensures unfailed { result ≢ Status.WriteFault → O.faults out.new ≡ O.faults out.old }
 {
     let asked = match ask(alloc, words, files) {
         Ok(asked) => asked,
         Err(status) => return status,
     };
-    let host_ticks = match asked.task {
-        Task::Run { host_ticks } => host_ticks,
-        Task::Plan => return put_asked(alloc, &asked, out),
-    };
+    match asked.task {
+        Task::Run { host_ticks } => run_asked(alloc, files, &asked, host_ticks, out, stock),
+        Task::Plan => put_asked(alloc, &asked, out),
+    }
+}
+
+/// Runs an experiment: its images and disks are loaded, its bench is built of them and the devices, and
+/// run.
+fn run_asked<F: Files, O: Sink, D: Device>(
+    alloc: Global,
+    files: &mut F,
+    asked: &Asked,
+    host_ticks: u64,
+    out: &mut O,
+    stock: [Vec<D>; 4],
+) -> Status
+    requires ready { IsReady asked.now }
+    requires few { host_ticks ≤ 1000000 }
+    requires stock { IsStock D.state (items_of stock) }
+    ensures ends { (words : List (List ℕ)) → IsAsked words (F.held files.old) (Task.Run host_ticks) (without_room asked.now.experiment) →
+        Ends (world words F.Files files.old files.new O.Sink out.old out.new (counts (items_of stock))) result }
+    ensures unfailed { result ≢ Status.WriteFault → O.faults out.new ≡ O.faults out.old }
+{
     match check(&asked.experiment, &asked.placement) {
         Ok(()) => (),
         Err(over) => return over_status(over),
     }
-    let builder = match load_images(alloc, files, &asked.experiment, &asked.placement) {
+    let builder = match load(alloc, files, &asked.experiment, &asked.placement) {
         Ok(builder) => builder,
         Err(status) => return status,
     };
-    let bench = match builder.finish(clints, uarts) {
+    let bench = match builder.finish(stock) {
         Ok(bench) => bench,
         Err(fault) => return build_status(fault),
     };

@@ -118,7 +118,9 @@ vsg|link = [{ a = 'a', b = 'a', bandwidth = 1, delay = 1, queue = 1 }]|NicTaken 
 vsg|link = [{ a = 'a', b = 'a', b_nic = 1, bandwidth = 1, delay = 1, queue = 1 }, { a = 'a', a_nic = 1, b = 'a', bandwidth = 1, delay = 1, queue = 1 }]|NicTaken Link 1 a_nic\n\
 vsp|link = [{ a = 'a', b = 'b', bandwidth = 1, delay = 1, queue = 1 }, { a = 'a', a_nic = 1, b = 'b', bandwidth = 1, delay = 1, queue = 1 }]|NicTaken Link 1 b_nic\n\
 vsg||NotBuilt Top 0 \n\
-vso|disk = [{ guest = 'a', sectors = 1, base = 1 }]|NotBuilt Top 0 \n\
+vsg|disk = [{ guest = 'a', sectors = 1, base = 1 }]|NotBuilt Top 0 \n\
+vso|disk = [{ guest = 'a', sectors = 1, base = 1 }]|Read\n\
+vso|disk = [{ guest = 'a', sectors = 32768, image = 'a', base = 1000000, per_sector = 1000000, seek_num = 1000000, seek_den = 1000000 }, { guest = 'a', sectors = 1, base = 1, per_sector = 0, seek_num = 0, seek_den = 1 }]|Read\n\
 vsg|link = [{ a = 'a', b = 'a', b_nic = 1, bandwidth = 1, delay = 1, queue = 1 }]|NotBuilt Top 0 \n\
 vs|guest = [{ name = \"a\", image = \"a.bin\", format = \"flat\", ram = 4096, rate = 2, slot = 0 }]|Read\n\
 vs|guest = [{ name = \"a\", image = \"a.bin\", format = \"flat\", ram = 4096, rate = 2 }]|Read\n\

@@ -1,4 +1,4 @@
-use Rattle.exp_file.proofs.FewGuests.{guests_few}
+use Rattle.exp_file.proofs.Few.{guests_few}
 use Rattle.exp_file.proofs.law.guests_are_few.Goals as goal
 
 pub returns : goal.returns

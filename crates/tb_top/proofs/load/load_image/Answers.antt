@@ -1,23 +1,24 @@
 -- The image that was read is that of the guest.
 use Rattle.std.proofs.Common.{rules}
+use Rattle.tb_top.specs.Reads.{image_limit}
 use Rattle.tb_top.specs.World.{files_seen}
-use Rattle.tb_top.proofs.Images.{read_is, refused_image, taken_image}
+use Rattle.tb_top.proofs.Loading.{read_is, image_refused, image_taken}
 use Rattle.tb_top.proofs.load.load_image.Goals as goal
 
 pub returns-clause-missed : goal.returns-clause-missed
 returns-clause-missed g c = λ slots t.
     let spec = c.index-guests-guest.result in
     rw c.build_status.ensures
-    (refused_image (files_seen g.F.Files c.args.files.now) (files_seen g.F.Files c.read.new.self) c.args.e.now slots c.args.builder.now c.args.guest spec
+    (image_refused (files_seen g.F.Files c.args.files.now) (files_seen g.F.Files c.read.new.self) c.args.e.now slots c.args.builder.now c.args.guest spec
     c.as_slice-guests.result.now c.as_slice-guests.ensures c.requires.guest c.index-guests-guest.is c.requires.next t c.as_slice.result.now
-    (read_is (g.F.Files.held c.args.files.now) c.as_str.result.now spec.image c.in-Ok.bytes.items c.as_slice.result.now c.as_str.ensures.text c.as_slice.ensures.value c.in-Ok.ensures.answer)
-    c.in-Err-add_image.fault (c.in-Err-add_image.ensures.answer c.args.e.now slots t.images spec t.building))
+    (read_is (g.F.Files.held c.args.files.now) image_limit c.as_str.result.now spec.image c.in-Ok.bytes.items c.as_slice.result.now c.as_str.ensures.text c.as_slice.ensures.value c.in-Ok.ensures.answer)
+    c.in-Err-add_image.fault (c.in-Err-add_image.ensures.answer c.args.e.now slots t.inputs spec t.building))
 
 pub returns-in-Ok-add_image-clause-taken : goal.returns-in-Ok-add_image-clause-taken
 returns-in-Ok-add_image-clause-taken g c = λ slots t.
     let spec = c.index-guests-guest.result in
-    taken_image (files_seen g.F.Files c.args.files.now) (files_seen g.F.Files c.read.new.self) c.args.e.now slots c.args.builder.now c.args.guest spec
+    image_taken (files_seen g.F.Files c.args.files.now) (files_seen g.F.Files c.read.new.self) c.args.e.now slots c.args.builder.now c.args.guest spec
     c.as_slice-guests.result.now c.as_slice-guests.ensures c.requires.guest c.index-guests-guest.is c.requires.next t c.as_slice.result.now
-    (read_is (g.F.Files.held c.args.files.now) c.as_str.result.now spec.image c.in-Ok.bytes.items c.as_slice.result.now c.as_str.ensures.text c.as_slice.ensures.value c.in-Ok.ensures.answer)
-    c.add_image.new.self (search rules) (c.in-Ok-add_image.ensures.answer c.args.e.now slots t.images spec t.building)
-    (c.in-Ok-add_image.ensures.building c.args.e.now slots t.images t.building)
+    (read_is (g.F.Files.held c.args.files.now) image_limit c.as_str.result.now spec.image c.in-Ok.bytes.items c.as_slice.result.now c.as_str.ensures.text c.as_slice.ensures.value c.in-Ok.ensures.answer)
+    c.add_image.new.self (search rules) (c.in-Ok-add_image.ensures.answer c.args.e.now slots t.inputs spec t.building)
+    (c.in-Ok-add_image.ensures.building c.args.e.now slots t.inputs t.building)

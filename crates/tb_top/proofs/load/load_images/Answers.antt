@@ -7,6 +7,5 @@ use Rattle.tb_top.proofs.load.load_images.Goals as goal
 
 pub returns-in-Err-load_image-clause-missed : goal.returns-in-Err-load_image-clause-missed
 returns-in-Err-load_image-clause-missed g c =
-    let p = c.args.p.now.slots.items in
-    subst (λ (f : FilesSeen). OrMemory (Unloaded f (files_seen g.F.Files c.load_image.new.files) c.args.e.now.guests.items) c.in-Err-load_image.status)
-    c.loop-guest.invariant.same (c.in-Err-load_image.ensures.missed p c.loop-guest.invariant.taken)
+    subst (λ (f : FilesSeen). OrMemory (Unloaded f (files_seen g.F.Files c.load_image.new.files) c.args.e.now) c.in-Err-load_image.status)
+    c.loop-guest.invariant.same (c.in-Err-load_image.ensures.missed c.args.p.now.slots.items c.loop-guest.invariant.taken)

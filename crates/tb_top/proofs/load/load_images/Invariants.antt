@@ -1,5 +1,5 @@
-use Rattle.std.proofs.Common.{◌≡◌, length, take}
-use Rattle.bench_build.specs.Building.{added, wanted}
+use Rattle.std.proofs.Common.{◌≡◌, [], length, take}
+use Rattle.bench_build.specs.Building.{images_wanted, images_added, disks_wanted, disks_added}
 use Rattle.tb_top.specs.Loads.{HasTaken}
 use Rattle.tb_top.specs.World.{files_seen}
 use Rattle.tb_top.proofs.load.load_images.Given as goal
@@ -7,7 +7,9 @@ use Rattle.tb_top.proofs.load.load_images.Given as goal
 abbrev pub invariant-loop-guest : goal.invariant-loop-guest
 invariant-loop-guest g l = record {
   same : files_seen g.F.Files l.files ≡ files_seen g.F.Files l.fn.files;
-  taken : HasTaken (files_seen g.F.Files l.files) (take l.guest l.e.guests.items) l.e l.p.slots.items l.builder;
-  added_is : added l.builder ≡ l.guest;
-  wanted_is : wanted l.builder ≡ length l.e.guests.items;
+  taken : HasTaken (files_seen g.F.Files l.files) (take l.guest l.e.guests.items) [] l.e l.p.slots.items l.builder;
+  images_added_is : images_added l.builder ≡ l.guest;
+  images_wanted_is : images_wanted l.builder ≡ length l.e.guests.items;
+  disks_added_is : disks_added l.builder ≡ 0;
+  disks_wanted_is : disks_wanted l.builder ≡ length l.e.disks.items;
 }

@@ -1,65 +1,45 @@
--- How each stage of a command ends.
-use Rattle.std.proofs.Common.{ℕ, length, refl, subst}
-use Rattle.bench_build.specs.Stocks.{Suffices, IsUnbuilt}
-use Rattle.tb_top.specs.Loads.{Unloaded}
-use Rattle.tb_top.specs.Reads.{AreLoaded}
+-- How a command without an experiment ends, and one that asks for a plan.
+use Rattle.std.proofs.Common.{◌≡◌, ℕ, List, inl, inr, ◌∙◌, subst}
+use Rattle.exp_file.specs.Lists.{without_room}
+use Rattle.host_plan.specs.Placing.{placed}
+use Rattle.tb_top.specs.Asking.{IsReady}
+use Rattle.tb_top.specs.Ends.{Ends, no_memory, no_experiment, ended, Refuses, IsAsked}
+use Rattle.tb_top.specs.Plans.{Plans}
 use Rattle.tb_top.specs.Statuses.{OrMemory}
-use Rattle.tb_top.specs.World.{FilesSeen, files_seen, sizes, texts, world}
-use Rattle.tb_top.proofs.Endings.{ends_unasked, ends_plan, ends_over, ends_unloaded, ends_unbuilt, ends_run}
+use Rattle.tb_top.specs.World.{FilesSeen, World, Quiet, files_seen, world, texts}
+use Rattle.tb_top.specs.declared.ask.Asked.{Asked}
+use Rattle.tb_top.specs.declared.status.Status.{Status}
+use Rattle.tb_top.specs.declared.status.Status.TheVariants.{Done, Overload, WriteFault, Memory}
+use Rattle.tb_top.specs.declared.words.Task.TheVariants.{Plan}
+use Rattle.host_plan.proofs.Room.{placed_room, over_room}
+use Rattle.plan_text.proofs.Room.{puts_room, part_room}
 use Rattle.tb_top.proofs.top.work.Goals as goal
 
+-- there is no experiment
+unasked : {w : World} (s : Status) → Quiet w → OrMemory (Refuses w.words w.files w.files_after) s → Ends w s
+unasked Memory quiet h = no_memory quiet
+unasked s quiet h = no_experiment quiet h
+
+-- the plan of an experiment was asked for
+module _ {w : World} (a : Asked) (ready : IsReady a) (asked : IsAsked w.words w.files.held Plan (without_room a.experiment)) where
+  plan_ends : (s : Status) → Plans a.experiment (placed (without_room a.experiment)) w.out w.out_after s → Ends w s
+  plan_ends Done (fits, puts) = ended Plan _ asked (fits, puts_room a.experiment _ w.out.taken w.out_after.taken puts)
+  plan_ends (Overload slot need have) (over, puts) = ended Plan _ asked (over_room a.experiment _ _ over, puts_room a.experiment _ w.out.taken w.out_after.taken puts)
+  plan_ends WriteFault (rose, part) = ended Plan _ asked (rose, part_room a.experiment _ w.out.taken w.out_after.taken part)
+  plan_ends Memory (inl quiet) = no_memory quiet
+  plan_ends Memory (inr part) = ended Plan _ asked (part_room a.experiment _ w.out.taken w.out_after.taken part)
+  plan_ends _ h = absurd h
+
+  planned : (s : Status) → Plans a.experiment a.placement.slots.items w.out w.out_after s → Ends w s
+  planned s plans = plan_ends s (subst (λ (q : List ℕ). Plans a.experiment q w.out w.out_after s) (ready.placed_so ∙ placed_room a.experiment) plans)
+
 pub returns-in-Err-clause-ends : goal.returns-in-Err-clause-ends
-returns-in-Err-clause-ends g c =
-    ends_unasked
-    (world (texts c.args.words.now) g.F.Files c.args.files.now c.ask.new.files g.O.Sink c.args.out.now c.args.out.now (sizes c.args.clints c.args.uarts))
-    c.in-Err.status refl c.in-Err.ensures.refused
+returns-in-Err-clause-ends g c = unasked c.in-Err.status refl c.in-Err.ensures.refused
 
 pub returns-in-Plan-clause-ends : goal.returns-in-Plan-clause-ends
-returns-in-Plan-clause-ends g c =
-    ends_plan
-    (world (texts c.args.words.now) g.F.Files c.args.files.now c.ask.new.files g.O.Sink c.args.out.now c.put_asked.new.out (sizes c.args.clints c.args.uarts))
-    c.in-Ok.asked.experiment c.in-Ok.asked.placement.slots.items c.put_asked.result c.in-Ok.ensures.ready.placed_so (rw c.in-Plan.is at c.in-Ok.ensures.asked) c.put_asked.ensures.plans
+returns-in-Plan-clause-ends g c = planned c.in-Ok.asked c.in-Ok.ensures.ready (rw c.in-Plan.is at c.in-Ok.ensures.asked) c.put_asked.result c.put_asked.ensures.plans
 
-pub returns-in-Err-check-clause-ends : goal.returns-in-Err-check-clause-ends
-returns-in-Err-check-clause-ends g c =
-    rw c.over_status.ensures
-    (ends_over
-    (world (texts c.args.words.now) g.F.Files c.args.files.now c.ask.new.files g.O.Sink c.args.out.now c.args.out.now (sizes c.args.clints c.args.uarts))
-    c.in-Run.host_ticks c.in-Ok.asked.experiment c.in-Ok.asked.placement.slots.items c.in-Ok.ensures.ready.placed_so (rw c.in-Run.is at c.in-Ok.ensures.asked)
-    c.in-Err-check.over refl c.in-Err-check.ensures.over)
-
-pub returns-in-Err-load_images-clause-ends : goal.returns-in-Err-load_images-clause-ends
-returns-in-Err-load_images-clause-ends g c =
-    let e = c.in-Ok.asked.experiment in
-    let after = files_seen g.F.Files c.load_images.new.files in
-    ends_unloaded
-    (world (texts c.args.words.now) g.F.Files c.args.files.now c.load_images.new.files g.O.Sink c.args.out.now c.args.out.now (sizes c.args.clints c.args.uarts))
-    c.in-Run.host_ticks e c.in-Ok.asked.placement.slots.items c.in-Ok.ensures.ready.placed_so (rw c.in-Run.is at c.in-Ok.ensures.asked) c.in-Ok-check.ensures.fits
-    c.in-Err-load_images.status refl
-    (subst (λ (f : FilesSeen). OrMemory (Unloaded f after e.guests.items) c.in-Err-load_images.status) c.in-Ok.ensures.same c.in-Err-load_images.ensures.missed)
-
-pub returns-in-Err-finish-clause-ends : goal.returns-in-Err-finish-clause-ends
-returns-in-Err-finish-clause-ends g c =
-    let e = c.in-Ok.asked.experiment in
-    let t = c.in-Ok-load_images.ensures.taken in
-    rw c.build_status.ensures
-    (ends_unbuilt
-    (world (texts c.args.words.now) g.F.Files c.args.files.now c.load_images.new.files g.O.Sink c.args.out.now c.args.out.now (sizes c.args.clints c.args.uarts))
-    c.in-Run.host_ticks e c.in-Ok.asked.placement.slots.items c.in-Ok.ensures.ready.placed_so (rw c.in-Run.is at c.in-Ok.ensures.asked) c.in-Ok-check.ensures.fits
-    t.images (subst (λ (f : FilesSeen). AreLoaded f.held e.guests.items t.images) c.in-Ok.ensures.same t.loaded) c.in-Err-finish.fault refl
-    (subst (λ (n : ℕ). IsUnbuilt n (length c.args.clints.items) (length c.args.uarts.items) c.in-Err-finish.fault) c.in-Ok-load_images.ensures.wanted c.in-Err-finish.ensures.fault))
-
-pub returns-clause-ends : goal.returns-clause-ends
-returns-clause-ends g c =
-    let e = c.in-Ok.asked.experiment in
-    let p = c.in-Ok.asked.placement.slots.items in
-    let n = c.in-Run.host_ticks in
-    let t = c.in-Ok-load_images.ensures.taken in
-    let stands = c.in-Ok-finish.ensures.stands e p t.images n t.building in
-    rw c.run_status.ensures
-    (ends_run
-    (world (texts c.args.words.now) g.F.Files c.args.files.now c.load_images.new.files g.O.Sink c.args.out.now c.run.new.out (sizes c.args.clints c.args.uarts))
-    n e p c.in-Ok.ensures.ready.placed_so (rw c.in-Run.is at c.in-Ok.ensures.asked) c.in-Ok-check.ensures.fits
-    t.images (subst (λ (f : FilesSeen). AreLoaded f.held e.guests.items t.images) c.in-Ok.ensures.same t.loaded) c.run.result
-    (subst (λ (m : ℕ). Suffices m (length c.args.clints.items) (length c.args.uarts.items)) c.in-Ok-load_images.ensures.wanted c.in-Ok-finish.ensures.stock)
-    (c.run.ensures.runs p t.images stands.0 stands.1 (c.in-Ok-finish.ensures.plan e p t.images n t.building)))
+pub returns-in-Run-clause-ends : goal.returns-in-Run-clause-ends
+returns-in-Run-clause-ends g c =
+    let ran = c.run_asked.ensures.ends (texts c.args.words.now) in
+    ?

@@ -1,8 +1,12 @@
 -- The words are the six that were looked at.
-use Rattle.std.proofs.Common.{◌≡◌, ℕ, List, [], ◌∷◌, map, string_bytes, codes, refl, sym, ap, ◌∙◌}
+use Rattle.std.proofs.Common.{◌≡◌, ℕ, ◌<◌, ◌≤◌, List, [], ◌∷◌, length, get_or, map, string_bytes, codes, refl, sym, ap, ◌∙◌, arith}
 use Rattle.tb_top.specs.Words.{IsRun}
-use Rattle.tb_top.proofs.Few.{six_items}
 use Rattle.tb_top.proofs.words.read_run.Goals as goal
+
+six_items : {A : Type 0} (xs : List A) (a b c d e f : A) → 6 ≤ length xs → length xs < 7
+    → a ≡ get_or xs 0 a → b ≡ get_or xs 1 b → c ≡ get_or xs 2 c → d ≡ get_or xs 3 d → e ≡ get_or xs 4 e → f ≡ get_or xs 5 f → xs ≡ a ∷ b ∷ c ∷ d ∷ e ∷ f ∷ []
+six_items (v ∷ w ∷ x ∷ y ∷ z ∷ k ∷ []) a b c d e f low high p q r s t u = cc
+six_items xs a b c d e f low high p q r s t u = absurd (omega arith)
 
 run_of_six : (r f t n v j file number : List ℕ) → r ≡ codes "run" → t ≡ codes "--host-ticks" → v ≡ codes "--view" → j ≡ codes "journal" → f ≡ file → n ≡ number
     → IsRun (r ∷ f ∷ t ∷ n ∷ v ∷ j ∷ []) file number

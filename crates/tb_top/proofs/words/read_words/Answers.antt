@@ -1,8 +1,11 @@
 -- The words are the two that were looked at.
-use Rattle.std.proofs.Common.{◌≡◌, ℕ, List, [], ◌∷◌, map, string_bytes, codes, refl, sym, ap, ◌∙◌}
+use Rattle.std.proofs.Common.{◌≡◌, ℕ, ◌<◌, ◌≤◌, List, [], ◌∷◌, length, get_or, map, string_bytes, codes, refl, sym, ap, ◌∙◌, arith}
 use Rattle.tb_top.specs.Words.{IsPlan}
-use Rattle.tb_top.proofs.Few.{two_items}
 use Rattle.tb_top.proofs.words.read_words.Goals as goal
+
+two_items : {A : Type 0} (xs : List A) (a b : A) → 2 ≤ length xs → length xs < 3 → a ≡ get_or xs 0 a → b ≡ get_or xs 1 b → xs ≡ a ∷ b ∷ []
+two_items (v ∷ w ∷ []) a b low high p q = cc
+two_items xs a b low high p q = absurd (omega arith)
 
 plan_of_two : (p f file : List ℕ) → p ≡ codes "plan" → f ≡ file → IsPlan (p ∷ f ∷ []) file
 plan_of_two p f file a b = cc

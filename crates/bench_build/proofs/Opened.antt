@@ -1,0 +1,43 @@
+-- Devices that were set up.
+use Rattle.std.proofs.Common.{◌≡◌, ℕ, List, [], ◌∷◌, ◌++◌, All, map, replicate, length, refl, sym, ap, ◌∙◌, subst}
+use Rattle.std.proofs.lemmas.List.{append-nil}
+use Rattle.std.proofs.lemmas.List.Elements.{All-cons, All-nil}
+use Rattle.dev_face.specs.declared.config.DevConfig.{DevConfig}
+use Rattle.dev_face.specs.declared.config.DevConfig.TheVariants as config
+use Rattle.dev_face.specs.declared.kind.Kind.{Kind}
+use Rattle.dev_face.specs.declared.kind.Kind.TheVariants as kind
+use Rattle.dev_face.specs.States.{DevState, IsComing, IsInLimits, opening, kind_of, config_kind}
+use Rattle.guest_machine.specs.Opening.{machine_kinds}
+use Rattle.bench_build.specs.Takings.{AreDisks, with_base}
+
+-- a device is of the kind that its configuration is for
+kind_opened : (c : DevConfig) → kind_of (opening c) ≡ config_kind c
+kind_opened config.Clint = refl
+kind_opened config.Uart = refl
+kind_opened (config.Blk sectors params content disk slot) = refl
+kind_opened (config.Net guest nic slot) = refl
+
+kinds_opened : (cs : List DevConfig) → map kind_of (map opening cs) ≡ map config_kind cs
+kinds_opened [] = refl
+kinds_opened (c ∷ cs) = ap (λ (k : Kind). k ∷ map kind_of (map opening cs)) (kind_opened c) ∙ ap (λ ks. config_kind c ∷ ks) (kinds_opened cs)
+
+-- it has begun no tick, and has nothing in flight
+coming_opened : (n : ℕ) (c : DevConfig) → IsComing 0 n (opening c)
+coming_opened n config.Clint = record { set_up = refl; next = refl; flies = tt }
+coming_opened n config.Uart = record { set_up = refl; next = refl; flies = tt }
+coming_opened n (config.Blk sectors params content disk slot) = record { set_up = refl; next = refl; flies = tt }
+coming_opened n (config.Net guest nic slot) = record { set_up = refl; next = refl; flies = tt }
+
+pub all_coming : (n : ℕ) (cs : List DevConfig) → All (IsComing 0 n) (map opening cs)
+all_coming n [] = All-nil (IsComing 0 n)
+all_coming n (c ∷ cs) = All-cons (IsComing 0 n) (opening c) (map opening cs) (coming_opened n c) (all_coming n cs)
+
+-- the devices of a guest are those of a machine with its disks
+pub machine_has : (disks : List DevConfig) → AreDisks disks → map kind_of (map opening (with_base disks)) ≡ machine_kinds (length disks) 0
+machine_has disks are =
+    kinds_opened (with_base disks)
+    ∙ ap (λ ks. kind.Clint ∷ kind.Uart ∷ ks) (are.kinds ∙ sym (append-nil (replicate (length disks) kind.Blk)))
+
+-- a Clint and a Uart can be set up, and so can a guest's devices
+pub base_limits : All IsInLimits (with_base [])
+base_limits = All-cons IsInLimits config.Clint (config.Uart ∷ []) tt (All-cons IsInLimits config.Uart [] tt (All-nil IsInLimits))

@@ -1,0 +1,95 @@
+-- Machines that are made one after another, and what of a list stands at a place.
+use Rattle.std.proofs.Common.{◌≡◌, ℕ, zero, suc, ◌<◌, List, [], ◌∷◌, ◌++◌, map, length, All, Option, Some, None, refl, sym, ap, ◌∙◌, subst, arith}
+use Rattle.std.specs.Prelude.{slice_get, Ok, Err}
+use Rattle.std.specs.List.{flat_map}
+use Rattle.std.specs.Option.{option_map}
+use Rattle.std.proofs.lemmas.Option.{slice_get-map}
+use Rattle.dev_face.specs.States.{DevState}
+use Rattle.exp_file.specs.declared.guest_spec.GuestSpec.{GuestSpec}
+use Rattle.exp_file.specs.declared.link_spec.LinkSpec.{LinkSpec}
+use Rattle.guest_machine.specs.Tick.{MachineState}
+use Rattle.guest_machine.specs.Opening.{opening}
+use Rattle.bench_build.specs.declared.loaded.Loaded.{Loaded}
+use Rattle.bench_build.specs.Building.{AreLoaded}
+use Rattle.bench_build.specs.Images.{image}
+use Rattle.bench_build.specs.Openings.{openings}
+use Rattle.bench_build.specs.Setups.{machine_of, opens, wires_of}
+
+pub some_is : {A : Type 0} {x y : A} → Some x ≡ Some y → x ≡ y
+some_is e = cc
+
+none_is_some : {A B : Type 0} {x : A} → None ≡ Some x → B
+none_is_some e = cc
+
+-- a list has something at each of its places
+pub some_at : {A : Type 0} (xs : List A) (i : ℕ) → i < length xs → (x : A) × (slice_get xs i ≡ Some x)
+some_at [] i lt = absurd (omega arith)
+some_at (x ∷ xs) zero lt = (x, refl)
+some_at (x ∷ xs) (suc i) lt = some_at xs i (omega (arith, lt))
+
+-- what holds of all holds of the one at a place
+pub all_get : {A : Type 0} (P : A → Type 0) (xs : List A) (i : ℕ) (x : A) → All P xs → slice_get xs i ≡ Some x → P x
+all_get P [] i x all at = none_is_some at
+all_get P (y ∷ xs) zero x all at = subst P (some_is at) (all 0 y (omega arith))
+all_get P (y ∷ xs) (suc i) x all at = all_get P xs i x (λ k d lt. all (suc k) d (omega (arith, lt))) at
+
+-- one image more stands in its RAM
+pub loaded_push : (gs : List GuestSpec) (images : List (List ℕ)) (ls : List Loaded) (b : List ℕ) (l : Loaded) (g : GuestSpec) → AreLoaded gs images ls →
+    slice_get gs (length images) ≡ Some g → image g.format g.ram b ≡ Ok l → AreLoaded gs (images ++ b ∷ []) (ls ++ l ∷ [])
+loaded_push [] [] ls b l g are at is = none_is_some at
+loaded_push (h ∷ gs) [] [] b l g are at is = (subst (λ (k : GuestSpec). image k.format k.ram b ≡ Ok l) (sym (some_is at)) is, tt)
+loaded_push (h ∷ gs) [] (m ∷ ls) b l g are at is = absurd are
+loaded_push [] (c ∷ images) ls b l g are at is = none_is_some at
+loaded_push (h ∷ gs) (c ∷ images) [] b l g are at is = absurd are
+loaded_push (h ∷ gs) (c ∷ images) (m ∷ ls) b l g are at is = (are.0, loaded_push gs images ls b l g are.1 at is)
+
+-- the machine of one guest more
+pub openings_push : (devices : ℕ → List DevState) (gs : List GuestSpec) (ls : List Loaded) (g : GuestSpec) (l : Loaded) → slice_get gs (length ls) ≡ Some g →
+    openings devices gs (ls ++ l ∷ []) ≡ openings devices gs ls ++ opening g.rate l.entry l.ram (devices (length ls)) ∷ []
+openings_push devices [] [] g l at = none_is_some at
+openings_push devices (h ∷ gs) [] g l at = ap (λ (k : GuestSpec). opening k.rate l.entry l.ram (devices 0) ∷ []) (some_is at)
+openings_push devices [] (m ∷ ls) g l at = none_is_some at
+openings_push devices (h ∷ gs) (m ∷ ls) g l at =
+    ap (λ ms. opening h.rate m.entry m.ram (devices 0) ∷ ms) (openings_push (λ n. devices (suc n)) gs ls g l at)
+
+-- machines of the same devices
+pub openings_same : (f h : ℕ → List DevState) (gs : List GuestSpec) (ls : List Loaded) → ((g : ℕ) → g < length gs → f g ≡ h g) → openings f gs ls ≡ openings h gs ls
+openings_same f h [] [] each = refl
+openings_same f h (g ∷ gs) [] each = refl
+openings_same f h [] (l ∷ ls) each = refl
+openings_same f h (g ∷ gs) (l ∷ ls) each =
+    ap (λ ds. opening g.rate l.entry l.ram ds ∷ openings (λ n. f (suc n)) gs ls) (each 0 (omega arith))
+    ∙ ap (λ ms. opening g.rate l.entry l.ram (h 0) ∷ ms) (openings_same (λ n. f (suc n)) (λ n. h (suc n)) gs ls (λ k lt. each (suc k) (omega (arith, lt))))
+
+opening_at : (devices : ℕ → List DevState) (gs : List GuestSpec) (ls : List Loaded) (i : ℕ) (g : GuestSpec) (l : Loaded) → slice_get gs i ≡ Some g →
+    slice_get ls i ≡ Some l → slice_get (openings devices gs ls) i ≡ Some (opening g.rate l.entry l.ram (devices i))
+opening_at devices gs [] i g l at on = none_is_some on
+opening_at devices [] (m ∷ ls) i g l at on = none_is_some at
+opening_at devices (h ∷ gs) (m ∷ ls) zero g l at on =
+    ap (λ (k : GuestSpec). Some (opening k.rate m.entry m.ram (devices 0))) (some_is at)
+    ∙ ap (λ (k : Loaded). Some (opening g.rate k.entry k.ram (devices 0))) (some_is on)
+opening_at devices (h ∷ gs) (m ∷ ls) (suc i) g l at on = opening_at (λ n. devices (suc n)) gs ls i g l at on
+
+-- a machine stands at its guest's place as it opens
+pub state_at : {M : Type 0} (state : M → MachineState) (ms : List M) (m : M) (devices : ℕ → List DevState) (gs : List GuestSpec) (ls : List Loaded) (i : ℕ) (g : GuestSpec)
+    (l : Loaded) → map state ms ≡ openings devices gs ls → slice_get ms i ≡ Some m → slice_get gs i ≡ Some g → slice_get ls i ≡ Some l →
+    state m ≡ opening g.rate l.entry l.ram (devices i)
+state_at {M} state ms m devices gs ls i g l made in' at on =
+    let here : slice_get (map state ms) i ≡ Some (state m) = slice_get-map state ms i ∙ ap (λ (o : Option M). option_map state o) in' in
+    some_is (sym here ∙ ap (λ (zs : List MachineState). slice_get zs i) made ∙ opening_at devices gs ls i g l at on)
+
+-- and that is the opening machine of the guest with its image
+pub opens_at : (devices : List DevState) (gs : List GuestSpec) (images : List (List ℕ)) (ls : List Loaded) (i : ℕ) (g : GuestSpec) (l : Loaded) → AreLoaded gs images ls →
+    slice_get gs i ≡ Some g → slice_get ls i ≡ Some l → opening g.rate l.entry l.ram devices ≡ machine_of (slice_get gs i) (slice_get images i) devices
+opens_at devices gs images [] i g l are at on = none_is_some on
+opens_at devices gs [] (m ∷ ls) i g l are at on = absurd are
+opens_at devices [] (b ∷ images) (m ∷ ls) i g l are at on = none_is_some at
+opens_at devices (h ∷ gs) (b ∷ images) (m ∷ ls) zero g l are at on =
+    ap (λ (k : GuestSpec). opening k.rate l.entry l.ram devices) (sym (some_is at))
+    ∙ ap (λ (k : Loaded). opening h.rate k.entry k.ram devices) (sym (some_is on))
+    ∙ ap (λ r. opens h.rate r devices) (sym are.0)
+opens_at devices (h ∷ gs) (b ∷ images) (m ∷ ls) (suc i) g l are at on = opens_at devices gs images ls i g l are.1 at on
+
+-- without links there are no wires
+pub wires_none : (links : List LinkSpec) → links ≡ [] → flat_map wires_of links ≡ []
+wires_none links e = ap (flat_map wires_of) e

@@ -1,0 +1,213 @@
+//! Benches of two guests with three disks.
+ghost use Rattle.std.specs.Prelude.{◌≡◌, ◌+◌, ◌≤◌, All, map, length, OnOk, IfOk};
+ghost use Rattle.bench_build.specs.Building.{images_added, images_wanted, disks_added, disks_wanted};
+ghost use Rattle.dev_face.specs.States.{Blank};
+
+use bench_build::{BuildFault, Builder, ImageFault};
+use blk_dev::Blk;
+use clint_dev::Clint;
+use dev_face::{Device, Kind};
+use exp_file::read_experiment;
+use host_plan::{check, place};
+use std::alloc::Global;
+use std::test::Fail;
+use tb_base::NoMemory;
+use uart_dev::Uart;
+
+/// The first guest has the first and the third disk, and the second one has the second disk.
+const EXPERIMENT: &str = "version = 1\n\
+factor = 1\n\
+slot = [{ capacity = 8 }]\n\
+guest = [\n\
+{ name = 'a', image = 'a', format = 'flat', ram = 4096, rate = 3 },\n\
+{ name = 'b', image = 'a', format = 'flat', ram = 4096, rate = 2 }]\n\
+disk = [\n\
+{ guest = 'a', sectors = 2, image = 'd', base = 1 },\n\
+{ guest = 'b', sectors = 1, image = 'd', base = 1, per_sector = 4 },\n\
+{ guest = 'a', sectors = 8, base = 9, seek_num = 1, seek_den = 2 }]\n";
+
+/// What there is to build of, and why no bench is built of it.
+#[derive(Drop)]
+struct Case {
+    /// How long the images are, and what the disks hold that hold something.
+    image: usize,
+    content: usize,
+    clints: usize,
+    uarts: usize,
+    blks: usize,
+    fault: Option<BuildFault>,
+}
+
+/// An image fills its RAM with 4096 bytes, and the second disk is full with 512.
+const CASES: [Case; 7] = [
+    Case {
+        image: 4096,
+        content: 512,
+        clints: 2,
+        uarts: 2,
+        blks: 3,
+        fault: None,
+    },
+    Case {
+        image: 0,
+        content: 0,
+        clints: 3,
+        uarts: 4,
+        blks: 5,
+        fault: None,
+    },
+    Case {
+        image: 4097,
+        content: 512,
+        clints: 2,
+        uarts: 2,
+        blks: 3,
+        fault: Some(BuildFault::Image {
+            guest: 0,
+            fault: ImageFault::TooLong,
+        }),
+    },
+    Case {
+        image: 4,
+        content: 1024,
+        clints: 2,
+        uarts: 2,
+        blks: 3,
+        fault: Some(BuildFault::DiskSize {
+            disk: 1,
+            len: 1024,
+            room: 512,
+        }),
+    },
+    Case {
+        image: 4,
+        content: 3,
+        clints: 1,
+        uarts: 1,
+        blks: 2,
+        fault: Some(BuildFault::NoDevice {
+            kind: Kind::Clint,
+            wanted: 2,
+            had: 1,
+        }),
+    },
+    Case {
+        image: 4,
+        content: 3,
+        clints: 2,
+        uarts: 1,
+        blks: 2,
+        fault: Some(BuildFault::NoDevice {
+            kind: Kind::Uart,
+            wanted: 2,
+            had: 1,
+        }),
+    },
+    Case {
+        image: 4,
+        content: 3,
+        clints: 2,
+        uarts: 2,
+        blks: 2,
+        fault: Some(BuildFault::NoDevice {
+            kind: Kind::Blk,
+            wanted: 3,
+            had: 2,
+        }),
+    },
+];
+
+/// All guests get the same image.
+fn add_images(builder: &mut Builder, guests: usize, image: &[u8]) -> Result<(), BuildFault>
+    requires { images_added builder.old + guests ≡ images_wanted builder.old }
+    ensures images { OnOk result (images_added builder.new ≡ images_wanted builder.new) }
+    ensures disks_added { disks_added builder.new ≡ disks_added builder.old }
+    ensures disks_wanted { disks_wanted builder.new ≡ disks_wanted builder.old }
+{
+    for _ in 0..guests {
+        builder.add_image(image)?;
+    }
+    Ok(())
+}
+
+/// Of each two disks the first holds this, and the other one nothing.
+fn add_disks(builder: &mut Builder, disks: usize, content: &[u8]) -> Result<(), BuildFault>
+    requires { disks_added builder.old + disks ≡ disks_wanted builder.old }
+    ensures disks { OnOk result (disks_added builder.new ≡ disks_wanted builder.new) }
+    ensures images_added { images_added builder.new ≡ images_added builder.old }
+    ensures images_wanted { images_wanted builder.new ≡ images_wanted builder.old }
+{
+    for disk in 0..disks {
+        if disk < 2 {
+            builder.add_disk(Some(content))?;
+        } else {
+            builder.add_disk(None)?;
+        }
+    }
+    Ok(())
+}
+
+/// Puts a blank device to the list of its kind.
+fn add<D: Device>(list: &mut Vec<D>, device: D, kind: Kind) -> Result<(), NoMemory>
+    requires list { All (λ s. s ≡ Blank kind) (map D.state list.old.items) }
+    requires device { D.state device ≡ Blank kind }
+    ensures { OnOk result (All (λ s. s ≡ Blank kind) (map D.state list.new.items)) }
+{
+    match list.push(device) {
+        Ok(()) => Ok(()),
+        Err(_) => Err(NoMemory),
+    }
+}
+
+/// Why no bench is built, if none is.
+fn fault_of(alloc: Global, case: &Case) -> Result<Option<BuildFault>, Fail> {
+    let Ok(e) = read_experiment(alloc, EXPERIMENT.as_bytes()) else {
+        return Err(NoMemory.into());
+    };
+    let placement = place(alloc, &e)?;
+    if check(&e, &placement).is_err() {
+        return Ok(None);
+    }
+    let mut builder = Builder::new(alloc, &e, &placement)?;
+    let zeros = Vec::from_elem(alloc, 0, 8192)?;
+    if case.image > 8192 || case.content > 8192 {
+        return Ok(None);
+    }
+    match add_images(&mut builder, e.guests.len(), &zeros[..case.image]) {
+        Ok(()) => (),
+        Err(fault) => return Ok(Some(fault)),
+    }
+    match add_disks(&mut builder, e.disks.len(), &zeros[..case.content]) {
+        Ok(()) => (),
+        Err(fault) => return Ok(Some(fault)),
+    }
+    let mut clints: Vec<Box<dyn Device>> = Vec::new(alloc);
+    for _ in 0..case.clints {
+        let clint: Box<dyn Device> = Box::new(alloc, Clint::new(alloc))?;
+        add(&mut clints, clint, Kind::Clint)?;
+    }
+    let mut uarts: Vec<Box<dyn Device>> = Vec::new(alloc);
+    for _ in 0..case.uarts {
+        let uart: Box<dyn Device> = Box::new(alloc, Uart::new(alloc))?;
+        add(&mut uarts, uart, Kind::Uart)?;
+    }
+    let mut blks: Vec<Box<dyn Device>> = Vec::new(alloc);
+    for _ in 0..case.blks {
+        let blk: Box<dyn Device> = Box::new(alloc, Blk::new(alloc))?;
+        add(&mut blks, blk, Kind::Blk)?;
+    }
+    match builder.finish([clints, uarts, blks, Vec::new(alloc)]) {
+        Ok(bench) if bench.failed() => Ok(Some(BuildFault::NoMemory)),
+        Ok(_) => Ok(None),
+        Err(fault) => Ok(Some(fault)),
+    }
+}
+
+#[test]
+fn benches_are_built_where_all_is_there(rt: HostRuntime) -> Result<(), Fail> {
+    let alloc = rt.alloc();
+    for case in &CASES {
+        assert_eq!(rt; fault_of(alloc, case)?, case.fault);
+    }
+    Ok(())
+}
