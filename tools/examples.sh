@@ -3,8 +3,9 @@
 # It builds nothing: `rt run` in crates/diecast leaves the program where this looks for it.
 #
 # The journal of one-guest, the plans of two-slots, the text of hello-uart and all lines of messages were worked
-# out by hand. The journal of two-slots and both files of compiled-c are the output of a run that was kept, so they
-# show only that it has not changed.
+# out by hand. The journal of two-slots, both files of compiled-c and the sum of disk are the output of a run that was
+# kept, so they show only that it has not changed. The text of disk is what its guest says on qemu, and the times that
+# its requests take were worked out by hand.
 #
 # usage: tools/examples.sh [PROGRAM]
 set -u
@@ -75,5 +76,11 @@ done
 run hello-uart 0 "" run hello.toml --host-ticks 10 --view journal
 # shellcheck disable=SC2016
 puts hello-uart/hello.txt awk '$3 == "uart" { printf "%c", $4 }'
+
+run disk 0 "" run disk.toml --host-ticks 325 --view journal
+puts disk/disk.events grep -E ' (disk|trap|broken|halt)( |$)'
+# shellcheck disable=SC2016
+puts disk/disk.txt awk '$3 == "uart" { printf "%c", $4 }'
+puts disk/disk.sum sha256sum
 
 exit "$failed"

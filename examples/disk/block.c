@@ -202,12 +202,12 @@ static enum block_status request(uint32_t type, uint32_t sector, volatile void *
     return wait_for(before, by_device ? bytes + 1 : 1);
 }
 
-enum block_status block_read(uint32_t sector, uint8_t *data, uint32_t bytes)
+enum block_status block_read(uint32_t sector, void *data, uint32_t bytes)
 {
     return request(READ, sector, data, bytes);
 }
 
-enum block_status block_write(uint32_t sector, const uint8_t *data, uint32_t bytes)
+enum block_status block_write(uint32_t sector, const void *data, uint32_t bytes)
 {
     return request(WRITE, sector, (void *)data, bytes);
 }

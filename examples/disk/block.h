@@ -16,8 +16,8 @@ const char *block_start(void);
 uint32_t block_sectors(void);
 
 /* Data of whole sectors. */
-enum block_status block_read(uint32_t sector, uint8_t *data, uint32_t bytes);
-enum block_status block_write(uint32_t sector, const uint8_t *data, uint32_t bytes);
+enum block_status block_read(uint32_t sector, void *data, uint32_t bytes);
+enum block_status block_write(uint32_t sector, const void *data, uint32_t bytes);
 
 /* All that was written before is kept by the disk. */
 enum block_status block_flush(void);

@@ -26,7 +26,7 @@ on_diecast() {
     local program
     program=$(realpath "${1:-$here/../../crates/diecast/out/diecast}") || exit 2
     [ -x "$program" ] || { echo "no program at $program" >&2; exit 2; }
-    (cd "$here" && "$program" run disk.toml --host-ticks 450 --view journal) > "$room/journal"
+    (cd "$here" && "$program" run disk.toml --host-ticks 325 --view journal) > "$room/journal"
     tell "$?" "the run on diecast"
     awk '$3 == "uart" { printf "%c", $4 }' "$room/journal" > "$room/diecast.txt"
 }

@@ -6,9 +6,10 @@
 
 /* The disk's sectors, and those that are written: the second and the third. */
 enum { SECTORS = 4, FIRST_WRITTEN = 1, WRITTEN = 2 };
+enum { SECTOR_WORDS = SECTOR_BYTES / 4, TEXT_WORDS = WRITTEN * SECTOR_WORDS };
 
-static uint8_t disk[SECTORS * SECTOR_BYTES];
-static uint8_t text[WRITTEN * SECTOR_BYTES];
+static uint32_t disk[SECTORS * SECTOR_WORDS];
+static uint32_t text[TEXT_WORDS];
 
 static int said(const char *what, enum block_status status, enum block_status wanted)
 {
@@ -28,21 +29,22 @@ static int read_label(void)
 {
     if (!said("read sector 0", block_read(0, disk, SECTOR_BYTES), BLOCK_OK))
         return 0;
+    char *label = (char *)disk;
     int length = 0;
-    while (length < SECTOR_BYTES - 1 && disk[length] != '\n')
+    while (length < SECTOR_BYTES - 1 && label[length] != '\n')
         length++;
-    disk[length] = 0;
+    label[length] = 0;
     say("its label: ");
-    say((const char *)disk);
+    say(label);
     say("\n");
     return 1;
 }
 
-/* Bytes of which no two neighbours are alike, and no sector as another. */
+/* No two words are alike: the factor is odd. */
 static void make_text(void)
 {
-    for (uint32_t place = 0; place < sizeof text; place++)
-        text[place] = (uint8_t)(place * 37 + place / SECTOR_BYTES);
+    for (uint32_t place = 0; place < TEXT_WORDS; place++)
+        text[place] = (place + 1) * 0x01234567;
 }
 
 static int write_text(void)
@@ -52,10 +54,10 @@ static int write_text(void)
         && said("flush", block_flush(), BLOCK_OK);
 }
 
-static int is_text(const uint8_t *data)
+static int is_text(const uint32_t *words)
 {
-    for (uint32_t place = 0; place < sizeof text; place++)
-        if (data[place] != text[place])
+    for (uint32_t place = 0; place < TEXT_WORDS; place++)
+        if (words[place] != text[place])
             return 0;
     return 1;
 }
@@ -73,12 +75,12 @@ static int read_all(void)
 {
     if (!said("read all sectors", block_read(0, disk, sizeof disk), BLOCK_OK))
         return 0;
-    if (!is_text(disk + FIRST_WRITTEN * SECTOR_BYTES)) {
+    if (!is_text(disk + FIRST_WRITTEN * SECTOR_WORDS)) {
         say("wrong: sectors 1 and 2 are not as written\n");
         return 0;
     }
     say("sectors 1 and 2 are as written\nsum ");
-    say_number(sum_of(disk, sizeof disk));
+    say_number(sum_of((const uint8_t *)disk, sizeof disk));
     say("\n");
     return 1;
 }
