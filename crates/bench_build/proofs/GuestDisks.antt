@@ -248,3 +248,9 @@ lists_put vs held w x n ds bs d b g is lt pushed made count long each =
         ∙ ap (λ y. held.items ++ y ∷ []) (made ∙ ap (disk_config d b) count)
         ∙ ap (λ (cs : List DevConfig). cs ++ disk_config d b (length cs) ∷ []) (sym here) in
     lists_push vs w ds bs d b g lt long put each
+
+-- the lists that were made are those of the file's disks
+pub lists_are : {Z : Type 0} (vs us : List (Vec DevConfig Z)) (ds es : List DiskSpec) (bs : List (List ℕ)) (m n : ℕ) → vs ≡ us → ds ≡ es → m ≡ n
+    → ((g : ℕ) → g < m → disks_at us g ≡ disk_configs g 0 ds bs) → (g : ℕ) → g < n → disks_at vs g ≡ disk_configs g 0 es bs
+lists_are vs us ds es bs m n same specs guests each g lt =
+    ap (λ ls. disks_at ls g) same ∙ each g (omega (arith, lt, guests)) ∙ ap (λ (xs : List DiskSpec). disk_configs g 0 xs bs) specs

@@ -34,7 +34,7 @@ some_at (x ∷ xs) zero lt = (x, refl)
 some_at (x ∷ xs) (suc i) lt = some_at xs i (omega (arith, lt))
 
 -- what a read finds is what stands there
-pub read_is : {A : Type 0} (xs : List A) (i n : ℕ) (x y : A) → i ≡ n → i < length xs → x ≡ get_or xs i x → slice_get xs n ≡ Some y → x ≡ y
+read_is : {A : Type 0} (xs : List A) (i n : ℕ) (x y : A) → i ≡ n → i < length xs → x ≡ get_or xs i x → slice_get xs n ≡ Some y → x ≡ y
 read_is xs i n x y e lt is at = some_is (sym (slice_get_read xs (length xs) i x refl lt is) ∙ ap (slice_get xs) e ∙ at)
 
 -- an image that is taken by what a read finds is taken of the guest that stands there
@@ -51,7 +51,7 @@ all_get P (y ∷ xs) zero x all at = subst P (some_is at) (all 0 y (omega arith)
 all_get P (y ∷ xs) (suc i) x all at = all_get P xs i x (λ k d lt. all (suc k) d (omega (arith, lt))) at
 
 -- one image more stands in its RAM
-pub loaded_push : (gs : List GuestSpec) (images : List (List ℕ)) (ls : List Loaded) (b : List ℕ) (l : Loaded) (g : GuestSpec) → AreLoaded gs images ls →
+loaded_push : (gs : List GuestSpec) (images : List (List ℕ)) (ls : List Loaded) (b : List ℕ) (l : Loaded) (g : GuestSpec) → AreLoaded gs images ls →
     slice_get gs (length images) ≡ Some g → image g.format g.ram b ≡ Ok l → AreLoaded gs (images ++ b ∷ []) (ls ++ l ∷ [])
 loaded_push [] [] ls b l g are at is = none_is_some at
 loaded_push (h ∷ gs) [] [] b l g are at is = (subst (λ (k : GuestSpec). image k.format k.ram b ≡ Ok l) (sym (some_is at)) is, tt)
@@ -60,8 +60,12 @@ loaded_push [] (c ∷ images) ls b l g are at is = none_is_some at
 loaded_push (h ∷ gs) (c ∷ images) [] b l g are at is = absurd are
 loaded_push (h ∷ gs) (c ∷ images) (m ∷ ls) b l g are at is = (are.0, loaded_push gs images ls b l g are.1 at is)
 
+pub loaded_more : (gs : List GuestSpec) (images : List (List ℕ)) (ls more : List Loaded) (b : List ℕ) (l : Loaded) (g : GuestSpec) → more ≡ ls ++ l ∷ [] → AreLoaded gs images ls
+    → slice_get gs (length images) ≡ Some g → image g.format g.ram b ≡ Ok l → AreLoaded gs (images ++ b ∷ []) more
+loaded_more gs images ls more b l g pushed are at is = subst (λ (zs : List Loaded). AreLoaded gs (images ++ b ∷ []) zs) (sym pushed) (loaded_push gs images ls b l g are at is)
+
 -- the machine of one guest more
-pub openings_push : (devices : ℕ → List DevState) (gs : List GuestSpec) (ls : List Loaded) (g : GuestSpec) (l : Loaded) → slice_get gs (length ls) ≡ Some g →
+openings_push : (devices : ℕ → List DevState) (gs : List GuestSpec) (ls : List Loaded) (g : GuestSpec) (l : Loaded) → slice_get gs (length ls) ≡ Some g →
     openings devices gs (ls ++ l ∷ []) ≡ openings devices gs ls ++ opening g.rate l.entry l.ram (devices (length ls)) ∷ []
 openings_push devices [] [] g l at = none_is_some at
 openings_push devices (h ∷ gs) [] g l at = ap (λ (k : GuestSpec). opening k.rate l.entry l.ram (devices 0) ∷ []) (some_is at)

@@ -1,9 +1,9 @@
 -- One machine more is that of the next guest.
-use Rattle.std.proofs.Common.{◌≡◌, ◌<◌, List, [], ◌∷◌, ◌++◌, length, map, All, sym, ap, subst, arith}
+use Rattle.std.proofs.Common.{◌≡◌, ◌<◌, List, [], ◌∷◌, ◌++◌, length, map, ap, subst, arith}
 use Rattle.std.proofs.lemmas.Iterator.Adapters.{YieldsList-from_vec}
 use Rattle.std.proofs.lemmas.Iterator.Consumers.{YieldsList-turn}
 use Rattle.std.proofs.lemmas.List.{length_push}
-use Rattle.std.proofs.lemmas.List.Elements.{All-push}
+use Rattle.std.proofs.lemmas.List.Elements.{All-push, All-same}
 use Rattle.dev_face.specs.States.{opening as opened}
 use Rattle.dev_face.specs.declared.config.DevConfig.{DevConfig}
 use Rattle.lookahead_core.specs.Motion.{Idle}
@@ -53,7 +53,7 @@ loop-image-preserved g c =
           c.len-index.result c.index-guests-index.result (map opened (with_base own)) c.in-Ok.ensures.items l.invariant.states c.in_ok-machine.ensures.state here
           (omega (arith, here, within)) (ap (λ (cs : List DevConfig). map opened (with_base cs)) {x = disks (length l.yielded)} {y = own} same);
       count = omega (arith, ap length c.in-Ok.ensures.items, length_push l.machines.items made, length_push l.yielded image, l.invariant.count);
-      idle = subst (All (λ m. machine_clock m ≡ Idle 0)) (sym c.in-Ok.ensures.items)
+      idle = All-same (λ m. machine_clock m ≡ Idle 0) c.push.new.self.items (l.machines.items ++ made ∷ []) c.in-Ok.ensures.items
           (All-push (λ m. machine_clock m ≡ Idle 0) l.machines.items made l.invariant.idle c.in_ok-machine.ensures.idle);
       stock = c.in_ok-machine.ensures.stock;
       left = λ k.
