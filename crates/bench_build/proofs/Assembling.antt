@@ -1,4 +1,4 @@
--- The machines of an experiment stand at its opening, and load their slots as its guests do.
+-- The machines of an experiment stand at its opening, and its bench has its plan.
 use Rattle.std.proofs.Common.{◌≡◌, ℕ, ◌<◌, List, [], length, map, Some, ap, ◌∙◌, arith}
 use Rattle.std.specs.Prelude.{slice_get}
 use Rattle.std.proofs.lemmas.Option.{slice_get_within}
@@ -6,12 +6,14 @@ use Rattle.dev_face.specs.States.{DevState, opening as opened}
 use Rattle.exp_file.specs.declared.experiment.Experiment.{Experiment}
 use Rattle.exp_file.specs.declared.guest_spec.GuestSpec.{GuestSpec}
 use Rattle.lookahead_core.specs.Opening.{IsOpening}
+use Rattle.slot_sched.specs.BenchWords.{plan_from}
+use Rattle.slot_sched.specs.Schedule.{Plan}
 use Rattle.guest_machine.specs.Tick.{MachineState}
 use Rattle.bench_build.specs.declared.loaded.Loaded.{Loaded}
 use Rattle.bench_build.specs.Building.{AreLoaded}
 use Rattle.bench_build.specs.Inputs.{Inputs}
 use Rattle.bench_build.specs.Openings.{openings}
-use Rattle.bench_build.specs.Setups.{setup, machine_of, disk_configs}
+use Rattle.bench_build.specs.Setups.{setup, plan, machine_of, disk_configs, capacity_of}
 use Rattle.bench_build.specs.Takings.{with_base}
 use Rattle.bench_build.proofs.Loads.{rate_at, rate_is}
 use Rattle.bench_build.proofs.Standing.{some_at, state_at, opens_at, wires_none}
@@ -52,3 +54,12 @@ opening_is state ms own e contents i ls made same disks loaded many all unlinked
           ∙ ap (here e) disks;
       wires_are = wires_none e.links.items unlinked;
     }
+
+-- the plan of a bench of these homes and capacities is that of the experiment on these slots
+pub plan_is : (p : Plan) (own e : Experiment) (homes slots given : List ℕ) (n : ℕ) → p ≡ plan_from homes given own.factor n → own ≡ e → homes ≡ slots
+    → given ≡ map capacity_of own.slots.items → p ≡ plan e slots n
+plan_is p own e homes slots given n made same at capacities =
+    made
+    ∙ ap (λ (hs : List ℕ). plan_from hs given own.factor n) at
+    ∙ ap (λ (cs : List ℕ). plan_from slots cs own.factor n) capacities
+    ∙ ap (λ (x : Experiment). plan x slots n) same

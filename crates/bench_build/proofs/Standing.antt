@@ -4,7 +4,7 @@ use Rattle.std.specs.Prelude.{slice_get, Result, Ok, Err, IfOk}
 use Rattle.std.specs.List.{flat_map}
 use Rattle.std.specs.Option.{option_map}
 use Rattle.std.proofs.lemmas.Option.{slice_get-map, slice_get_read, slice_get-get_or}
-use Rattle.std.proofs.lemmas.List.{map_push}
+use Rattle.std.proofs.lemmas.List.{map_push, length_push}
 use Rattle.dev_face.specs.States.{DevState}
 use Rattle.exp_file.specs.declared.guest_spec.GuestSpec.{GuestSpec}
 use Rattle.exp_file.specs.declared.link_spec.LinkSpec.{LinkSpec}
@@ -32,6 +32,10 @@ pub some_at : {A : Type 0} (xs : List A) (i : ℕ) → i < length xs → (x : A)
 some_at [] i lt = absurd (omega arith)
 some_at (x ∷ xs) zero lt = (x, refl)
 some_at (x ∷ xs) (suc i) lt = some_at xs i (omega (arith, lt))
+
+-- two lists of one length, with one item more each
+pub count_push : {A B : Type 0} (xs more : List A) (x : A) (ys : List B) (y : B) → more ≡ xs ++ x ∷ [] → length xs ≡ length ys → length more ≡ length (ys ++ y ∷ [])
+count_push xs more x ys y pushed e = omega (arith, ap length pushed, length_push xs x, length_push ys y, e)
 
 -- what a read finds is what stands there
 read_is : {A : Type 0} (xs : List A) (i n : ℕ) (x y : A) → i ≡ n → i < length xs → x ≡ get_or xs i x → slice_get xs n ≡ Some y → x ≡ y

@@ -12,7 +12,7 @@ use Rattle.bench_build.specs.Stocks.{counts, items_of}
 use Rattle.bench_build.specs.Takings.{AreDisks, with_base, disks_at}
 use Rattle.bench_build.proofs.GuestDisks.{disks_turn}
 use Rattle.bench_build.proofs.KindLists.{enough_left, left_after}
-use Rattle.bench_build.proofs.Standing.{states_push}
+use Rattle.bench_build.proofs.Standing.{count_push, states_push}
 use Rattle.bench_build.proofs.machines.machines_for.Goals as goal
 
 pub machine_for-requires-clause-disks : goal.machine_for-requires-clause-disks
@@ -52,7 +52,7 @@ loop-image-preserved g c =
       states = states_push machine_state l.machines.items c.push.new.self.items made (λ n. map opened (with_base (disks n))) c.args.guests.now l.yielded image
           c.len-index.result c.index-guests-index.result (map opened (with_base own)) c.in-Ok.ensures.items l.invariant.states c.in_ok-machine.ensures.state here
           (omega (arith, here, within)) (ap (λ (cs : List DevConfig). map opened (with_base cs)) {x = disks (length l.yielded)} {y = own} same);
-      count = omega (arith, ap length c.in-Ok.ensures.items, length_push l.machines.items made, length_push l.yielded image, l.invariant.count);
+      count = count_push l.machines.items c.push.new.self.items made l.yielded image c.in-Ok.ensures.items l.invariant.count;
       idle = All-same (λ m. machine_clock m ≡ Idle 0) c.push.new.self.items (l.machines.items ++ made ∷ []) c.in-Ok.ensures.items
           (All-push (λ m. machine_clock m ≡ Idle 0) l.machines.items made l.invariant.idle c.in_ok-machine.ensures.idle);
       stock = c.in_ok-machine.ensures.stock;

@@ -1,8 +1,7 @@
 -- One image more is that of the next guest.
 use Rattle.std.proofs.Common.{◌≡◌, ◌<◌, length, ap, ◌∙◌, arith}
-use Rattle.std.proofs.lemmas.List.{length_push}
 use Rattle.exp_file.specs.declared.experiment.Experiment.{Experiment}
-use Rattle.bench_build.proofs.Standing.{some_at, taken_is, loaded_more}
+use Rattle.bench_build.proofs.Standing.{some_at, count_push, taken_is, loaded_more}
 use Rattle.bench_build.proofs.builder.Builder.add_image.Goals as goal
 
 pub returns-clause-answer : goal.returns-clause-answer
@@ -31,7 +30,7 @@ returns-clause-building c = λ e slots i b.
       experiment = b.experiment;
       placement = b.placement;
       loaded = loaded_more e.guests.items i.images self.loaded.items c.push.new.self.items c.args.bytes.now c.in_ok-loaded.loaded g.0 c.in-Ok.ensures.items b.loaded g.1 one;
-      count = omega (arith, ap length c.in-Ok.ensures.items, length_push self.loaded.items c.in_ok-loaded.loaded, length_push i.images c.args.bytes.now, b.count);
+      count = count_push self.loaded.items c.push.new.self.items c.in_ok-loaded.loaded i.images c.args.bytes.now c.in-Ok.ensures.items b.count;
       contents = b.contents;
       unlinked = b.unlinked;
     }

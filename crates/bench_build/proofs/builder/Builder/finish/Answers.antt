@@ -5,10 +5,11 @@ use Rattle.std.proofs.lemmas.List.{length-map}
 use Rattle.exp_file.specs.declared.experiment.Experiment.{Experiment}
 use Rattle.exp_file.specs.declared.slot_spec.SlotSpec.{SlotSpec}
 use Rattle.lookahead_core.specs.CoreWords.{node_rate, node_count}
+use Rattle.slot_sched.specs.BenchWords.{plan_of}
 use Rattle.slot_sched.specs.Schedule.{sum_at}
 use Rattle.guest_machine.specs.MachineView.{machine_state}
 use Rattle.bench_build.specs.Setups.{setup, capacity_of}
-use Rattle.bench_build.proofs.Assembling.{devices_of, rates_are, opening_is}
+use Rattle.bench_build.proofs.Assembling.{devices_of, rates_are, opening_is, plan_is}
 use Rattle.bench_build.proofs.Loads.{capacities_in_range, fit_is}
 use Rattle.bench_build.proofs.builder.Builder.finish.Goals as goal
 
@@ -50,12 +51,7 @@ returns-in-Ok-new-clause-stands h c = λ e slots i n is.
 pub returns-in-Ok-new-clause-plan : goal.returns-in-Ok-new-clause-plan
 returns-in-Ok-new-clause-plan h c = λ e slots i n is.
     let own = c.args.self.experiment.now in
-    let given = c.deref.result.now in
-    let caps : given ≡ map capacity_of e.slots.items =
-        c.deref.ensures.value ∙ c.in-Ok-capacities_of.ensures ∙ ap (map capacity_of) {x = c.as_slice.result.now} {y = own.slots.items} c.as_slice.ensures
-        ∙ ap (λ (x : Experiment). map capacity_of x.slots.items) {x = own} {y = e} is.experiment in
-    c.in-Ok-new.ensures.plan n
-    ∙ ap (λ (hs : List ℕ). record { homes = hs; capacities = given; factor = own.factor; host_ticks = n }) {x = c.as_slice-homes.result.now} {y = slots}
-        (c.as_slice-homes.ensures ∙ is.placement)
-    ∙ ap (λ (cs : List ℕ). record { homes = slots; capacities = cs; factor = own.factor; host_ticks = n }) {x = given} {y = map capacity_of e.slots.items} caps
-    ∙ ap (λ (x : Experiment). record { homes = slots; capacities = map capacity_of e.slots.items; factor = x.factor; host_ticks = n }) {x = own} {y = e} is.experiment
+    let caps : c.deref.result.now ≡ map capacity_of own.slots.items =
+        c.deref.ensures.value ∙ c.in-Ok-capacities_of.ensures ∙ ap (map capacity_of) {x = c.as_slice.result.now} {y = own.slots.items} c.as_slice.ensures in
+    plan_is (plan_of c.in-Ok-new.bench n) own e c.as_slice-homes.result.now slots c.deref.result.now n (c.in-Ok-new.ensures.plan n) is.experiment
+    (c.as_slice-homes.ensures ∙ is.placement) caps
