@@ -48,7 +48,7 @@ opening_is state ms own e contents i ls made same disks loaded many all unlinked
           let l = some_at ls g (omega (arith, within, many)) in
           let here = λ (x : Experiment) (bs : List (List ℕ)). machine_of (slice_get e.guests.items g) (slice_get i.images g) (devices_of x bs g) in
           state_at state ms node (devices_of own contents) own.guests.items ls g guest.0 l.0 made at
-              (ap (λ (x : Experiment). slice_get x.guests.items g) same ∙ guest.1) l.1
+          (ap (λ (x : Experiment). slice_get x.guests.items g) same ∙ guest.1) l.1
           ∙ opens_at (devices_of own contents g) e.guests.items i.images ls g guest.0 l.0 loaded guest.1 l.1
           ∙ ap (λ (x : Experiment). here x contents) same
           ∙ ap (here e) disks;

@@ -22,7 +22,7 @@ machine_for-requires-clause-disks g c =
     let here : c.len-index.result ≡ length l.yielded = omega (arith, c.len-index.ensures, l.invariant.count) in
     let within : length l.yielded < length c.args.guests.now = omega (arith, t.0, c.requires.all) in
     let same = disks_turn c.args.disks.now c.index-disks-index.result c.len-index.result (length l.yielded) c.deref.result.now c.index-disks-index.is here
-        (omega (arith, here, within, c.requires.lists)) c.deref.ensures.value in
+    (omega (arith, here, within, c.requires.lists)) c.deref.ensures.value in
     subst AreDisks same (c.requires.disks (length l.yielded) within)
 
 pub machine_for-requires-clause-enough : goal.machine_for-requires-clause-enough
@@ -32,7 +32,7 @@ machine_for-requires-clause-enough g c = λ k.
     let here : c.len-index.result ≡ length l.yielded = omega (arith, c.len-index.ensures, l.invariant.count) in
     let within : length l.yielded < length c.args.guests.now = omega (arith, t.0, c.requires.all) in
     let same = disks_turn c.args.disks.now c.index-disks-index.result c.len-index.result (length l.yielded) c.deref.result.now c.index-disks-index.is here
-        (omega (arith, here, within, c.requires.lists)) c.deref.ensures.value in
+    (omega (arith, here, within, c.requires.lists)) c.deref.ensures.value in
     enough_left k (disks_at c.args.disks.now) (length l.yielded) (length c.args.guests.now) (counts (items_of l.stock) k) (counts (items_of c.args.stock.now) k) c.deref.result.now
     same within (c.requires.enough k) (l.invariant.left k)
 
@@ -47,7 +47,7 @@ loop-image-preserved g c =
     let here : c.len-index.result ≡ length l.yielded = omega (arith, c.len-index.ensures, l.invariant.count) in
     let within : length l.yielded < length c.args.guests.now = omega (arith, t.0, c.requires.all) in
     let same = disks_turn c.args.disks.now c.index-disks-index.result c.len-index.result (length l.yielded) own c.index-disks-index.is here
-        (omega (arith, here, within, c.requires.lists)) c.deref.ensures.value in
+    (omega (arith, here, within, c.requires.lists)) c.deref.ensures.value in
     record {
       states = states_push machine_state l.machines.items c.push.new.self.items made (λ n. map opened (with_base (disks n))) c.args.guests.now l.yielded image
           c.len-index.result c.index-guests-index.result (map opened (with_base own)) c.in-Ok.ensures.items l.invariant.states c.in_ok-machine.ensures.state here

@@ -25,7 +25,7 @@ returns-clause-building c = λ e slots i b.
     let within : c.len-index.result < length guests = omega (arith, c.requires, c.len-index.ensures, ap length c.as_slice-guests.ensures) in
     let g = some_at e.guests.items (length i.images) (omega (arith, here, within, ap length {x = guests} {y = e.guests.items} same)) in
     let one = taken_is guests e.guests.items c.len-index.result (length i.images) c.index-guests-index.result g.0 c.args.bytes.now c.in_ok-loaded.loaded same here within
-        c.index-guests-index.is g.1 c.in_ok-loaded.ensures in
+    c.index-guests-index.is g.1 c.in_ok-loaded.ensures in
     record {
       experiment = b.experiment;
       placement = b.placement;

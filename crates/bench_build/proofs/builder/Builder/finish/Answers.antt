@@ -1,9 +1,7 @@
 -- The bench of the machines of the guests stands at the opening of the experiment.
-use Rattle.std.proofs.Common.{◌≡◌, ℕ, ◌<◌, ◌*◌, List, length, map, sym, ap, ◌∙◌, arith}
+use Rattle.std.proofs.Common.{◌≡◌, ℕ, ◌*◌, List, length, map, ap, ◌∙◌, arith}
 use Rattle.std.specs.Prelude.{slice_index}
 use Rattle.std.proofs.lemmas.List.{length-map}
-use Rattle.exp_file.specs.declared.experiment.Experiment.{Experiment}
-use Rattle.exp_file.specs.declared.slot_spec.SlotSpec.{SlotSpec}
 use Rattle.lookahead_core.specs.CoreWords.{node_rate, node_count}
 use Rattle.slot_sched.specs.BenchWords.{plan_of}
 use Rattle.slot_sched.specs.Schedule.{sum_at}
@@ -18,7 +16,7 @@ new-requires-clause-small h c = λ s.
     let b = c.args.self in
     let e = b.experiment.now in
     let caps : c.deref.result.now ≡ map capacity_of e.slots.items =
-        c.deref.ensures.value ∙ c.in-Ok-capacities_of.ensures ∙ ap (map capacity_of) {x = c.as_slice.result.now} {y = e.slots.items} c.as_slice.ensures in
+    c.deref.ensures.value ∙ c.in-Ok-capacities_of.ensures ∙ ap (map capacity_of) {x = c.as_slice.result.now} {y = e.slots.items} c.as_slice.ensures in
     let at = ap (λ (xs : List ℕ). slice_index xs s) {x = c.deref.result.now} {y = map capacity_of e.slots.items} caps in
     omega (arith, at, capacities_in_range e.slots.items b.well_formed.slots s)
 
@@ -32,10 +30,10 @@ new-requires-clause-fit h c = λ s lt.
     let homes = b.placement.now.slots.items in
     let capacities = map capacity_of e.slots.items in
     let caps : c.deref.result.now ≡ capacities =
-        c.deref.ensures.value ∙ c.in-Ok-capacities_of.ensures ∙ ap (map capacity_of) {x = c.as_slice.result.now} {y = e.slots.items} c.as_slice.ensures in
+    c.deref.ensures.value ∙ c.in-Ok-capacities_of.ensures ∙ ap (map capacity_of) {x = c.as_slice.result.now} {y = e.slots.items} c.as_slice.ensures in
     let many : count ≡ length e.guests.items = omega (arith, c.in-Ok-build.ensures.count, c.in-Ok.ensures.count, c.requires.images) in
     let rates = rates_are machine_state c.in-Ok.machines.items (devices_of e b.contents.items) e.guests.items b.loaded.items rate count c.in-Ok.ensures.states
-        c.in-Ok-build.ensures.count c.in-Ok.ensures.count c.requires.images c.in-Ok-build.ensures.rates in
+    c.in-Ok-build.ensures.count c.in-Ok.ensures.count c.requires.images c.in-Ok-build.ensures.rates in
     let same = ap (λ (hs : List ℕ). sum_at (slice_index hs) s rate count) {x = c.as_slice-homes.result.now} {y = homes} c.as_slice-homes.ensures in
     let cap = ap (λ (cs : List ℕ). slice_index cs s * e.factor) {x = c.deref.result.now} {y = capacities} caps in
     let slots : length c.deref.result.now ≡ length e.slots.items = ap length {x = c.deref.result.now} {y = capacities} caps ∙ length-map e.slots.items capacity_of in
@@ -45,13 +43,13 @@ pub returns-in-Ok-new-clause-stands : goal.returns-in-Ok-new-clause-stands
 returns-in-Ok-new-clause-stands h c = λ e slots i n is.
     let b = c.args.self in
     c.in-Ok-new.ensures.stands (setup e i) n (c.in-Ok-build.ensures.stands (setup e i)
-        (opening_is machine_state c.in-Ok.machines.items b.experiment.now e b.contents.items i b.loaded.items c.in-Ok.ensures.states is.experiment is.contents is.loaded
-            c.in-Ok.ensures.count c.requires.images is.unlinked))
+    (opening_is machine_state c.in-Ok.machines.items b.experiment.now e b.contents.items i b.loaded.items c.in-Ok.ensures.states is.experiment is.contents is.loaded
+    c.in-Ok.ensures.count c.requires.images is.unlinked))
 
 pub returns-in-Ok-new-clause-plan : goal.returns-in-Ok-new-clause-plan
 returns-in-Ok-new-clause-plan h c = λ e slots i n is.
     let own = c.args.self.experiment.now in
     let caps : c.deref.result.now ≡ map capacity_of own.slots.items =
-        c.deref.ensures.value ∙ c.in-Ok-capacities_of.ensures ∙ ap (map capacity_of) {x = c.as_slice.result.now} {y = own.slots.items} c.as_slice.ensures in
+    c.deref.ensures.value ∙ c.in-Ok-capacities_of.ensures ∙ ap (map capacity_of) {x = c.as_slice.result.now} {y = own.slots.items} c.as_slice.ensures in
     plan_is (plan_of c.in-Ok-new.bench n) own e c.as_slice-homes.result.now slots c.deref.result.now n (c.in-Ok-new.ensures.plan n) is.experiment
     (c.as_slice-homes.ensures ∙ is.placement) caps
