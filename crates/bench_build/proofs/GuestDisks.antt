@@ -83,10 +83,10 @@ limits guests g n (d ∷ ds) [] all fills few = All-nil IsInLimits
 limits guests g n (d ∷ ds) (b ∷ bs) all fills few =
     pick (All IsInLimits) (d.guest == g) (disk_config d b n ∷ disk_configs g (n + 1) ds bs) (disk_configs g n ds bs)
     (λ yes.
-        let one = count_yes g d ds yes in
-        All-cons IsInLimits (disk_config d b n) (disk_configs g (n + 1) ds bs)
-        (disk_limits guests n d b (All-head (IsDisk guests) d ds all) (fills 0 d b refl refl) (omega (arith, few, one)))
-        (limits guests g (n + 1) ds bs (All-tail (IsDisk guests) d ds all) (λ j. fills (suc j)) (omega (arith, few, one))))
+    let one = count_yes g d ds yes in
+    All-cons IsInLimits (disk_config d b n) (disk_configs g (n + 1) ds bs)
+    (disk_limits guests n d b (All-head (IsDisk guests) d ds all) (fills 0 d b refl refl) (omega (arith, few, one)))
+    (limits guests g (n + 1) ds bs (All-tail (IsDisk guests) d ds all) (λ j. fills (suc j)) (omega (arith, few, one))))
     (λ no. limits guests g n ds bs (All-tail (IsDisk guests) d ds all) (λ j. fills (suc j)) (omega (arith, few, count_no g d ds no)))
 
 -- and so the machine of a guest has room for its disks
@@ -176,8 +176,10 @@ takes_within e bs disks same = elim [
   where
     guests : ℕ
     guests = length e.guests.items
+
     all_blk : (g : ℕ) → g < guests → map config_kind (disks g) ≡ replicate (length (disks g)) kind.Blk
     all_blk g lt = subst (λ cs. map config_kind cs ≡ replicate (length cs) kind.Blk) (sym (same g lt)) (blks g 0 e.disks.items bs)
+
     blk_take : (g : ℕ) → g < guests → number_for kind.Blk (with_base (disks g)) ≤ disks_of g e.disks.items
     blk_take g lt = omega (arith, all_for (disks g) (all_blk g lt), ap length (same g lt), disks_length g 0 e.disks.items bs)
 
@@ -244,7 +246,13 @@ pub lists_put : {Z : Type 0} (vs : List (Vec DevConfig Z)) (held w : Vec DevConf
 lists_put vs held w x n ds bs d b g is lt pushed made count long each =
     let here = disks_held vs held d.guest is lt in
     let put : w.items ≡ disks_at vs d.guest ++ disk_config d b (length (disks_at vs d.guest)) ∷ [] =
-        pushed
-        ∙ ap (λ y. held.items ++ y ∷ []) (made ∙ ap (disk_config d b) count)
-        ∙ ap (λ (cs : List DevConfig). cs ++ disk_config d b (length cs) ∷ []) (sym here) in
+    pushed
+    ∙ ap (λ y. held.items ++ y ∷ []) (made ∙ ap (disk_config d b) count)
+    ∙ ap (λ (cs : List DevConfig). cs ++ disk_config d b (length cs) ∷ []) (sym here) in
     lists_push vs w ds bs d b g lt long put each
+
+-- the lists that were made are those of the file's disks
+pub lists_are : {Z : Type 0} (vs us : List (Vec DevConfig Z)) (ds es : List DiskSpec) (bs : List (List ℕ)) (m n : ℕ) → vs ≡ us → ds ≡ es → m ≡ n
+    → ((g : ℕ) → g < m → disks_at us g ≡ disk_configs g 0 ds bs) → (g : ℕ) → g < n → disks_at vs g ≡ disk_configs g 0 es bs
+lists_are vs us ds es bs m n same specs guests each g lt =
+    ap (λ ls. disks_at ls g) same ∙ each g (omega (arith, lt, guests)) ∙ ap (λ (xs : List DiskSpec). disk_configs g 0 xs bs) specs

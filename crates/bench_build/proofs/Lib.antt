@@ -1,3 +1,4 @@
+pub mod Assembling
 pub mod GuestDisks
 pub mod KindLists
 pub mod Loads

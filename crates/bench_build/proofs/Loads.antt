@@ -3,7 +3,6 @@ use Rattle.std.proofs.Common.{◌≡◌, ◌==◌, ℕ, zero, suc, ◌+◌, ◌*
 use Rattle.std.specs.Prelude.{slice_index, slice_index_or, slice_get, All}
 use Rattle.std.specs.List.{sum, filter, zip}
 use Rattle.std.proofs.lemmas.List.Sums.{sum_by-cons}
-use Rattle.std.proofs.lemmas.Option.{get_or_from_slice_get}
 use Rattle.exp_file.specs.declared.guest_spec.GuestSpec.{GuestSpec}
 use Rattle.exp_file.specs.declared.slot_spec.SlotSpec.{SlotSpec}
 use Rattle.exp_file.specs.declared.experiment.Experiment.{Experiment}
@@ -67,8 +66,8 @@ pub fit_is : (e : Experiment) (slots : List ℕ) (rates : ℕ → ℕ) (n : ℕ)
     (s : ℕ) → s < length e.slots.items → sum_at (slice_index slots) s rates n ≤ slice_index (map capacity_of e.slots.items) s * e.factor
 fit_is e slots rates n fits count many each s lt =
     let sums : sum_at (slice_index slots) s rates n ≡ need e slots s =
-        sum_at_same (slice_index slots) s rates (rate_at e.guests.items) n each
-        ∙ ap (λ k. sum_at (slice_index slots) s (rate_at e.guests.items) k) many
-        ∙ need_is e.guests.items slots s count in
+    sum_at_same (slice_index slots) s rates (rate_at e.guests.items) n each
+    ∙ ap (λ k. sum_at (slice_index slots) s (rate_at e.guests.items) k) many
+    ∙ need_is e.guests.items slots s count in
     let cap : slice_index (map capacity_of e.slots.items) s * e.factor ≡ capacity e s * e.factor = ap (λ v. v * e.factor) (capacity_is e.slots.items s) in
     omega (arith, sums, cap, fits s lt)

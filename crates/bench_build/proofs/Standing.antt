@@ -4,7 +4,7 @@ use Rattle.std.specs.Prelude.{slice_get, Result, Ok, Err, IfOk}
 use Rattle.std.specs.List.{flat_map}
 use Rattle.std.specs.Option.{option_map}
 use Rattle.std.proofs.lemmas.Option.{slice_get-map, slice_get_read, slice_get-get_or}
-use Rattle.std.proofs.lemmas.List.{map_push}
+use Rattle.std.proofs.lemmas.List.{map_push, length_push}
 use Rattle.dev_face.specs.States.{DevState}
 use Rattle.exp_file.specs.declared.guest_spec.GuestSpec.{GuestSpec}
 use Rattle.exp_file.specs.declared.link_spec.LinkSpec.{LinkSpec}
@@ -33,8 +33,12 @@ some_at [] i lt = absurd (omega arith)
 some_at (x ∷ xs) zero lt = (x, refl)
 some_at (x ∷ xs) (suc i) lt = some_at xs i (omega (arith, lt))
 
+-- two lists of one length, with one item more each
+pub count_push : {A B : Type 0} (xs more : List A) (x : A) (ys : List B) (y : B) → more ≡ xs ++ x ∷ [] → length xs ≡ length ys → length more ≡ length (ys ++ y ∷ [])
+count_push xs more x ys y pushed e = omega (arith, ap length pushed, length_push xs x, length_push ys y, e)
+
 -- what a read finds is what stands there
-pub read_is : {A : Type 0} (xs : List A) (i n : ℕ) (x y : A) → i ≡ n → i < length xs → x ≡ get_or xs i x → slice_get xs n ≡ Some y → x ≡ y
+read_is : {A : Type 0} (xs : List A) (i n : ℕ) (x y : A) → i ≡ n → i < length xs → x ≡ get_or xs i x → slice_get xs n ≡ Some y → x ≡ y
 read_is xs i n x y e lt is at = some_is (sym (slice_get_read xs (length xs) i x refl lt is) ∙ ap (slice_get xs) e ∙ at)
 
 -- an image that is taken by what a read finds is taken of the guest that stands there
@@ -51,7 +55,7 @@ all_get P (y ∷ xs) zero x all at = subst P (some_is at) (all 0 y (omega arith)
 all_get P (y ∷ xs) (suc i) x all at = all_get P xs i x (λ k d lt. all (suc k) d (omega (arith, lt))) at
 
 -- one image more stands in its RAM
-pub loaded_push : (gs : List GuestSpec) (images : List (List ℕ)) (ls : List Loaded) (b : List ℕ) (l : Loaded) (g : GuestSpec) → AreLoaded gs images ls →
+loaded_push : (gs : List GuestSpec) (images : List (List ℕ)) (ls : List Loaded) (b : List ℕ) (l : Loaded) (g : GuestSpec) → AreLoaded gs images ls →
     slice_get gs (length images) ≡ Some g → image g.format g.ram b ≡ Ok l → AreLoaded gs (images ++ b ∷ []) (ls ++ l ∷ [])
 loaded_push [] [] ls b l g are at is = none_is_some at
 loaded_push (h ∷ gs) [] [] b l g are at is = (subst (λ (k : GuestSpec). image k.format k.ram b ≡ Ok l) (sym (some_is at)) is, tt)
@@ -60,8 +64,12 @@ loaded_push [] (c ∷ images) ls b l g are at is = none_is_some at
 loaded_push (h ∷ gs) (c ∷ images) [] b l g are at is = absurd are
 loaded_push (h ∷ gs) (c ∷ images) (m ∷ ls) b l g are at is = (are.0, loaded_push gs images ls b l g are.1 at is)
 
+pub loaded_more : (gs : List GuestSpec) (images : List (List ℕ)) (ls more : List Loaded) (b : List ℕ) (l : Loaded) (g : GuestSpec) → more ≡ ls ++ l ∷ [] → AreLoaded gs images ls
+    → slice_get gs (length images) ≡ Some g → image g.format g.ram b ≡ Ok l → AreLoaded gs (images ++ b ∷ []) more
+loaded_more gs images ls more b l g pushed are at is = subst (λ (zs : List Loaded). AreLoaded gs (images ++ b ∷ []) zs) (sym pushed) (loaded_push gs images ls b l g are at is)
+
 -- the machine of one guest more
-pub openings_push : (devices : ℕ → List DevState) (gs : List GuestSpec) (ls : List Loaded) (g : GuestSpec) (l : Loaded) → slice_get gs (length ls) ≡ Some g →
+openings_push : (devices : ℕ → List DevState) (gs : List GuestSpec) (ls : List Loaded) (g : GuestSpec) (l : Loaded) → slice_get gs (length ls) ≡ Some g →
     openings devices gs (ls ++ l ∷ []) ≡ openings devices gs ls ++ opening g.rate l.entry l.ram (devices (length ls)) ∷ []
 openings_push devices [] [] g l at = none_is_some at
 openings_push devices (h ∷ gs) [] g l at = ap (λ (k : GuestSpec). opening k.rate l.entry l.ram (devices 0) ∷ []) (some_is at)

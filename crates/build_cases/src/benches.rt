@@ -1,6 +1,7 @@
 //! Benches of two guests with three disks.
 ghost use Rattle.std.specs.Prelude.{◌≡◌, ◌+◌, ◌≤◌, All, map, length, OnOk, IfOk};
 ghost use Rattle.bench_build.specs.Building.{images_added, images_wanted, disks_added, disks_wanted};
+ghost use Rattle.bench_build.specs.Stocks.{IsStock, items_of};
 ghost use Rattle.dev_face.specs.States.{Blank};
 
 use bench_build::{BuildFault, Builder, ImageFault};
@@ -159,6 +160,24 @@ fn add<D: Device>(list: &mut Vec<D>, device: D, kind: Kind) -> Result<(), NoMemo
     }
 }
 
+/// Why no bench is built of these devices, if none is. A bench that is built goes.
+fn finished<D: Device>(builder: Builder, stock: [Vec<D>; 4]) -> Option<BuildFault>
+    requires images { images_added builder ≡ images_wanted builder }
+    requires disks { disks_added builder ≡ disks_wanted builder }
+    requires stock { IsStock D.state (items_of stock) }
+{
+    match builder.finish(stock) {
+        Ok(bench) => {
+            if bench.failed() {
+                Some(BuildFault::NoMemory)
+            } else {
+                None
+            }
+        }
+        Err(fault) => Some(fault),
+    }
+}
+
 /// Why no bench is built, if none is.
 fn fault_of(alloc: Global, case: &Case) -> Result<Option<BuildFault>, Fail> {
     let Ok(e) = read_experiment(alloc, EXPERIMENT.as_bytes()) else {
@@ -196,11 +215,7 @@ fn fault_of(alloc: Global, case: &Case) -> Result<Option<BuildFault>, Fail> {
         let blk: Box<dyn Device> = Box::new(alloc, Blk::new(alloc))?;
         add(&mut blks, blk, Kind::Blk)?;
     }
-    match builder.finish([clints, uarts, blks, Vec::new(alloc)]) {
-        Ok(bench) if bench.failed() => Ok(Some(BuildFault::NoMemory)),
-        Ok(_) => Ok(None),
-        Err(fault) => Ok(Some(fault)),
-    }
+    Ok(finished(builder, [clints, uarts, blks, Vec::new(alloc)]))
 }
 
 #[test]

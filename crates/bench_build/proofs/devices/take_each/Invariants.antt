@@ -1,4 +1,4 @@
-use Rattle.std.proofs.Common.{◌≡◌, ℕ, ◌+◌, ◌++◌, map, take, drop, length}
+use Rattle.std.proofs.Common.{◌≡◌, ◌+◌, ◌++◌, map, take, drop}
 use Rattle.dev_face.specs.States.{opening}
 use Rattle.dev_face.specs.declared.kind.Kind.{Kind}
 use Rattle.bench_build.specs.Stocks.{IsStock, counts, items_of}

@@ -1,5 +1,5 @@
 -- One disk more is the next of its guest.
-use Rattle.std.proofs.Common.{◌≡◌, ℕ, ◌+◌, ◌<◌, ◌≤◌, List, [], ◌∷◌, ◌++◌, length, length-set, take, sym, ap, ◌∙◌, subst, arith}
+use Rattle.std.proofs.Common.{◌≡◌, ◌+◌, ◌<◌, List, [], ◌∷◌, ◌++◌, length, length-set, take, sym, ap, ◌∙◌, subst, arith}
 use Rattle.std.proofs.lemmas.Iterator.Adapters.{YieldsList-from_vec}
 use Rattle.std.proofs.lemmas.Iterator.Consumers.{YieldsList-turn}
 use Rattle.std.proofs.lemmas.List.{length_push, length-take-le, take_more}
@@ -16,7 +16,7 @@ overflow_cast-n c =
     let within : l.index < length c.args.specs.now = omega (arith, t.0, c.requires.all, l.invariant.at) in
     let guest : spec.guest < c.args.guests = subst (λ (z : DiskSpec). z.guest < c.args.guests) (sym c.index-specs-index.is) (c.requires.guests l.index spec within) in
     let held = held_few l.lists.items c.index_mut-list.result.now spec.guest (take l.index c.args.specs.now) l.yielded c.index_mut-list.ensures.value
-        (omega (arith, guest, l.invariant.count)) (l.invariant.each spec.guest guest) in
+    (omega (arith, guest, l.invariant.count)) (l.invariant.each spec.guest guest) in
     omega (arith, held, length-take-le l.index c.args.specs.now (omega (arith, within)), within, c.requires.few, c.len-n.ensures)
 
 pub loop-content-preserved : goal.loop-content-preserved

@@ -1,5 +1,5 @@
-use Rattle.std.proofs.Common.{List, All, length, map, refl, ap, sym, ◌∙◌, subst}
-use Rattle.dev_face.specs.States.{DevState, IsComing, kind_of}
+use Rattle.std.proofs.Common.{All, length, map, refl, ap, sym, ◌∙◌, subst}
+use Rattle.dev_face.specs.States.{IsComing, kind_of}
 use Rattle.bench_build.specs.Takings.{with_base}
 use Rattle.bench_build.proofs.Opened.{all_coming, machine_has}
 use Rattle.bench_build.proofs.machines.machine_for.Goals as goal

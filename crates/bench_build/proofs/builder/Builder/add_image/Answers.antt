@@ -1,10 +1,7 @@
 -- One image more is that of the next guest.
-use Rattle.std.proofs.Common.{◌≡◌, ◌<◌, List, [], ◌∷◌, ◌++◌, length, sym, ap, ◌∙◌, subst, arith}
-use Rattle.std.proofs.lemmas.List.{length_push}
+use Rattle.std.proofs.Common.{◌≡◌, ◌<◌, length, ap, ◌∙◌, arith}
 use Rattle.exp_file.specs.declared.experiment.Experiment.{Experiment}
-use Rattle.bench_build.specs.declared.loaded.Loaded.{Loaded}
-use Rattle.bench_build.specs.Building.{AreLoaded}
-use Rattle.bench_build.proofs.Standing.{some_at, taken_is, loaded_push}
+use Rattle.bench_build.proofs.Standing.{some_at, count_push, taken_is, loaded_more}
 use Rattle.bench_build.proofs.builder.Builder.add_image.Goals as goal
 
 pub returns-clause-answer : goal.returns-clause-answer
@@ -28,13 +25,12 @@ returns-clause-building c = λ e slots i b.
     let within : c.len-index.result < length guests = omega (arith, c.requires, c.len-index.ensures, ap length c.as_slice-guests.ensures) in
     let g = some_at e.guests.items (length i.images) (omega (arith, here, within, ap length {x = guests} {y = e.guests.items} same)) in
     let one = taken_is guests e.guests.items c.len-index.result (length i.images) c.index-guests-index.result g.0 c.args.bytes.now c.in_ok-loaded.loaded same here within
-        c.index-guests-index.is g.1 c.in_ok-loaded.ensures in
+    c.index-guests-index.is g.1 c.in_ok-loaded.ensures in
     record {
       experiment = b.experiment;
       placement = b.placement;
-      loaded = subst (λ (zs : List Loaded). AreLoaded e.guests.items (i.images ++ c.args.bytes.now ∷ []) zs) (sym c.in-Ok.ensures.items)
-          (loaded_push e.guests.items i.images self.loaded.items c.args.bytes.now c.in_ok-loaded.loaded g.0 b.loaded g.1 one);
-      count = omega (arith, ap length c.in-Ok.ensures.items, length_push self.loaded.items c.in_ok-loaded.loaded, length_push i.images c.args.bytes.now, b.count);
+      loaded = loaded_more e.guests.items i.images self.loaded.items c.push.new.self.items c.args.bytes.now c.in_ok-loaded.loaded g.0 c.in-Ok.ensures.items b.loaded g.1 one;
+      count = count_push self.loaded.items c.push.new.self.items c.in_ok-loaded.loaded i.images c.args.bytes.now c.in-Ok.ensures.items b.count;
       contents = b.contents;
       unlinked = b.unlinked;
     }
