@@ -3,7 +3,7 @@
 //! by hand from the privileged manual.
 ghost use Rattle.std.specs.Prelude.{List, ℕ, Bool};
 ghost use Rattle.csr_file.specs.declared.lines.Lines.{Lines};
-ghost use Rattle.guest_ram.specs.Bytes.{ram_load, place_of, at_place, bytes_after};
+ghost use Rattle.guest_ram.specs.Bytes.{ram_load, index_of, at_index, bytes_after};
 ghost use Rattle.tb_base.specs.declared.width.Width.TheVariants.{Word};
 
 use crate::cases::running::put_words;
@@ -25,7 +25,7 @@ impl Bus for RamBus {
 
     ghost bus_state = { λ b. (b.ram, b.lines, b.stopped) };
 
-    ghost bus = { record { fetched = λ s pc. ram_load s.0 pc Word; loaded = λ s addr width. ram_load s.0 addr width; stored = λ s addr width v. at_place (place_of s.0 addr width) (λ at. (bytes_after s.0 at width v, s.1, s.2)); lines_of = λ s. s.1; now_of = λ s. 0; is_stopped = λ s. s.2 } };
+    ghost bus = { record { fetched = λ s pc. ram_load s.0 pc Word; loaded = λ s addr width. ram_load s.0 addr width; stored = λ s addr width v. at_index (index_of s.0 addr width) (λ at. (bytes_after s.0 at width v, s.1, s.2)); lines_of = λ s. s.1; now_of = λ s. 0; is_stopped = λ s. s.2 } };
 
     ghost ready = { λ _. Unit {0} };
 
