@@ -107,7 +107,8 @@ impl<'a> Builder<'a> {
         ensures kept { OnErr result ((e : Experiment) (slots : List ℕ) (i : Inputs) →
             IsBuilding e slots i self.old → IsBuilding e slots i self.new) }
         ensures answer { (e : Experiment) (slots : List ℕ) (i : Inputs) (d : DiskSpec) →
-            IsBuilding e slots i self.old → slice_get e.disks.items (length i.disks) ≡ Some d → DiskAnswers (length i.disks) d (content_of (option_copied content.entry)) result }
+            IsBuilding e slots i self.old → slice_get e.disks.items (length i.disks) ≡ Some d →
+            DiskAnswers (length i.disks) d (content_of (option_copied content.entry)) result }
         ensures images_wanted { images_wanted self.new ≡ images_wanted self.old }
         ensures disks_wanted { disks_wanted self.new ≡ disks_wanted self.old }
         ensures images_added { images_added self.new ≡ images_added self.old }

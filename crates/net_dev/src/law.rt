@@ -6,7 +6,8 @@ ghost use Rattle.net_dev.specs.Backlogs.{lost_rec, received_in};
 
 /// Of what waited and what arrives the first 64 frames wait, and the others are lost.
 pub fn the_first_64_wait()
-    ensures wait { (now nic : ℕ) (backlog frames : List (List ℕ)) → length backlog ≤ 64 → (joined now nic backlog frames).backlog ≡ take 64 (backlog ++ frames) }
+    ensures wait { (now nic : ℕ) (backlog frames : List (List ℕ)) → length backlog ≤ 64 →
+        (joined now nic backlog frames).backlog ≡ take 64 (backlog ++ frames) }
     ensures lost { (now nic : ℕ) (backlog frames : List (List ℕ)) → length backlog ≤ 64 →
         (joined now nic backlog frames).recs ≡ map (lost_rec now nic) (drop 64 (backlog ++ frames)) }
 {}

@@ -110,7 +110,8 @@ impl Files for MemFiles {
     fn read(&mut self, alloc: Global, name: &str, limit: usize) -> Result<Vec<u8>, ReadErr>
         ensures held { held_in self.new ≡ held_in self.old }
         ensures answer { Answers (held_in self.old name.now) limit result }
-        ensures cause { Faults result name.now ((reads_of self.old).faults, (reads_of self.old).fault_name) ((reads_of self.new).faults, (reads_of self.new).fault_name) }
+        ensures cause { Faults result name.now ((reads_of self.old).faults, (reads_of self.old).fault_name)
+            ((reads_of self.new).faults, (reads_of self.new).fault_name) }
         ensures gives { Gives (next_read self.old name.now limit) result }
         ensures reads { reads_of self.new ≡ after_read (reads_of self.old) name.now result }
     {

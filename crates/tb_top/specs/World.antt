@@ -1,6 +1,7 @@
 -- What is seen of files and of sinks, and all that the clauses of the top call speak of.
 use Rattle.std.specs.Prelude.{◌≡◌, ℕ, List, [], ◌∷◌, map, Option, String, string_bytes, Vec}
 use Rattle.dev_face.specs.declared.kind.Kind.{Kind}
+use Rattle.bench_build.specs.declared.stock.Stock.{Stock}
 use Rattle.bench_build.specs.Stocks.{counts}
 use Rattle.tb_io.specs.declared.files.Files.{Ghosts as FilesWords}
 use Rattle.tb_io.specs.declared.sink.Sink.{Ghosts as SinkWords}
@@ -45,8 +46,8 @@ world words G files files_after H out out_after stock = record {
 abbrev pub by_kind : {A Z : Type 0} → Vec A Z → Vec A Z → Vec A Z → Vec A Z → List (List A)
 by_kind clints uarts blks nets = clints.items ∷ uarts.items ∷ blks.items ∷ nets.items ∷ []
 
-abbrev pub sizes : {A Z : Type 0} → Vec A Z → Vec A Z → Vec A Z → Vec A Z → Kind → ℕ
-sizes clints uarts blks nets = counts (by_kind clints uarts blks nets)
+abbrev pub sizes : Stock → Kind → ℕ
+sizes s = counts (by_kind s.clints s.uarts s.blks s.nets)
 
 -- the bytes of words
 abbrev pub texts : {Z : Type 0} → List (String Z) → List (List ℕ)

@@ -38,18 +38,18 @@ pub fn diecast<F: Files, O: Sink, M: Sink>(
 
     // What the status says and what `out` has taken: with `Done`, the text of a complete legal
     // journal of the very experiment, images and disks that were read, or the plan of that experiment.
-    ensures ends { Ends (world (texts words.now) F.Files files.old files.new O.Sink out.old out.new (sizes stock.clints stock.uarts stock.blks stock.nets)) result }
+    ensures ends { Ends (world (texts words.now) F.Files files.old files.new O.Sink out.old out.new (sizes stock)) result }
 
     // The sentence that the testbed stands for: the placement is accepted exactly where it fits, and
     // after every host tick of an accepted run each guest's trace is that of the undilated system.
-    ensures headline { Headline (world (texts words.now) F.Files files.old files.new O.Sink out.old out.new (sizes stock.clints stock.uarts stock.blks stock.nets)) result }
+    ensures headline { Headline (world (texts words.now) F.Files files.old files.new O.Sink out.old out.new (sizes stock)) result }
 
     // Where all that is told is right and nothing fails, a run comes to its end, or finds no memory.
-    ensures complete { Completes (world (texts words.now) F.Files files.old files.new O.Sink out.old out.new (sizes stock.clints stock.uarts stock.blks stock.nets)) result }
+    ensures complete { Completes (world (texts words.now) F.Files files.old files.new O.Sink out.old out.new (sizes stock)) result }
 
     // Where the file of a plan is told and right and no file fails, the plan is put and the status
     // says whether it fits, but for a failed put and want of memory.
-    ensures planned { IsPlanned (world (texts words.now) F.Files files.old files.new O.Sink out.old out.new (sizes stock.clints stock.uarts stock.blks stock.nets)) result }
+    ensures planned { IsPlanned (world (texts words.now) F.Files files.old files.new O.Sink out.old out.new (sizes stock)) result }
 
     // A put to `out` that failed is told as a write fault, and as nothing else.
     ensures unfailed { result ≢ Status.WriteFault → O.faults out.new ≡ O.faults out.old }
