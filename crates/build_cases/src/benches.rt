@@ -202,17 +202,26 @@ fn fault_of(alloc: Global, case: &Case) -> Result<Option<BuildFault>, Fail> {
     }
     let mut clints: Vec<Box<dyn Device>> = Vec::new(alloc);
     for _ in 0..case.clints {
-        let clint: Box<dyn Device> = Box::new(alloc, Clint::new(alloc))?;
+        let Ok(clint) = Box::new(alloc, Clint::new(alloc)) else {
+            return Err(NoMemory.into());
+        };
+        let clint: Box<dyn Device> = clint;
         add(&mut clints, clint, Kind::Clint)?;
     }
     let mut uarts: Vec<Box<dyn Device>> = Vec::new(alloc);
     for _ in 0..case.uarts {
-        let uart: Box<dyn Device> = Box::new(alloc, Uart::new(alloc))?;
+        let Ok(uart) = Box::new(alloc, Uart::new(alloc)) else {
+            return Err(NoMemory.into());
+        };
+        let uart: Box<dyn Device> = uart;
         add(&mut uarts, uart, Kind::Uart)?;
     }
     let mut blks: Vec<Box<dyn Device>> = Vec::new(alloc);
     for _ in 0..case.blks {
-        let blk: Box<dyn Device> = Box::new(alloc, Blk::new(alloc))?;
+        let Ok(blk) = Box::new(alloc, Blk::new(alloc)) else {
+            return Err(NoMemory.into());
+        };
+        let blk: Box<dyn Device> = blk;
         add(&mut blks, blk, Kind::Blk)?;
     }
     Ok(finished(builder, [clints, uarts, blks, Vec::new(alloc)]))
