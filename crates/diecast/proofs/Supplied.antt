@@ -1,8 +1,9 @@
 -- The boxes of the program are enough for every experiment.
-use Rattle.std.proofs.Common.{◌≡◌, ℕ, ◌≤◌, ◌==◌, ◌&&◌, Bool, true, false, if◌then◌else◌, List, [], ◌∷◌, All, map, Result, Ok, Err, length, refl, ◌∙◌, subst, arith}
+use Rattle.std.proofs.Common.{◌≡◌, ℕ, ◌≤◌, ◌==◌, ◌&&◌, Bool, true, false, if◌then◌else◌, List, [], ◌∷◌, All, map, Result, Ok, Err, length, refl, sym, ap, ◌∙◌, subst, arith}
 use Rattle.std.specs.List.{sum, list_all}
 use Rattle.std.proofs.Math.Path.{fun_ext}
 use Rattle.std.proofs.lemmas.Bool.{eqb-true}
+use Rattle.std.proofs.lemmas.List.Sums.{sum_by-cons}
 use Rattle.dev_face.specs.States.{DevState, Blank}
 use Rattle.dev_face.specs.declared.kind.Kind.{Kind}
 use Rattle.dev_face.specs.declared.kind.Kind.TheVariants as kind
@@ -39,7 +40,7 @@ no_nics : (gs : List GuestSpec) → list_all (λ g. g.nics == 0) gs ≡ true →
 no_nics [] h = refl
 no_nics (g ∷ gs) h =
     let k = both_true (g.nics == 0) (list_all (λ x. x.nics == 0) gs) h in
-    omega (arith, eqb-true g.nics 0 k.0, no_nics gs k.1)
+    omega (arith, eqb-true g.nics 0 k.0, no_nics gs k.1, sum_by-cons (λ (x : ℕ). x) g.nics (map (λ x. x.nics) gs))
 
 -- an experiment that a file says has 32 guests and 64 disks at most
 abbrev pub AreFew : Type 0
@@ -56,24 +57,24 @@ unfolding reading
 boxes_suffice few b e read = record { of = enough e (few b e read).0 (few b e read).1 (after_said (said b) e read) }
 
 -- the lists of the program are a stock with so many boxes of each kind
-pub is_stock : {A : Type 0} (state : A → DevState) (clints uarts blks : List A) → All (λ s. s ≡ Blank kind.Clint) (map state clints) → All (λ s. s ≡ Blank kind.Uart) (map state uarts)
-    → All (λ s. s ≡ Blank kind.Blk) (map state blks) → IsStock state (clints ∷ uarts ∷ blks ∷ [] ∷ [])
-is_stock state clints uarts blks p q r kind.Clint = p
-is_stock state clints uarts blks p q r kind.Uart = q
-is_stock state clints uarts blks p q r kind.Blk = r
-is_stock state clints uarts blks p q r kind.Net = tt
+pub is_stock : {A : Type 0} (state : A → DevState) (clints uarts blks nets : List A) → All (λ s. s ≡ Blank kind.Clint) (map state clints) → All (λ s. s ≡ Blank kind.Uart) (map state uarts)
+    → All (λ s. s ≡ Blank kind.Blk) (map state blks) → nets ≡ [] → IsStock state (clints ∷ uarts ∷ blks ∷ nets ∷ [])
+is_stock state clints uarts blks nets p q r none kind.Clint = p
+is_stock state clints uarts blks nets p q r none kind.Uart = q
+is_stock state clints uarts blks nets p q r none kind.Blk = r
+is_stock {A} state clints uarts blks nets p q r none kind.Net = subst (λ (xs : List A). All (λ s. s ≡ Blank kind.Net) (map state xs)) (sym none) (λ i d below. absurd (omega (arith, below)))
 
-counted : {A : Type 0} (clints uarts blks : List A) → length clints ≡ 32 → length uarts ≡ 32 → length blks ≡ 64 → (k : Kind) → counts (clints ∷ uarts ∷ blks ∷ [] ∷ []) k ≡ boxes k
-counted clints uarts blks p q r kind.Clint = p
-counted clints uarts blks p q r kind.Uart = q
-counted clints uarts blks p q r kind.Blk = r
-counted clints uarts blks p q r kind.Net = refl
+counted : {A : Type 0} (clints uarts blks nets : List A) → length clints ≡ 32 → length uarts ≡ 32 → length blks ≡ 64 → nets ≡ [] → (k : Kind) → counts (clints ∷ uarts ∷ blks ∷ nets ∷ []) k ≡ boxes k
+counted clints uarts blks nets p q r none kind.Clint = p
+counted clints uarts blks nets p q r none kind.Uart = q
+counted clints uarts blks nets p q r none kind.Blk = r
+counted clints uarts blks nets p q r none kind.Net = ap length none
 
 -- what is said of the boxes as they are counted is said of so many
-pub of_boxes : {A : Type 0} {w : World} {s : Status} (clints uarts blks : List A) → Ends w s → w.stock ≡ counts (clints ∷ uarts ∷ blks ∷ [] ∷ [])
-    → length clints ≡ 32 → length uarts ≡ 32 → length blks ≡ 64 → Ends (record w { stock = boxes }) s
-of_boxes {A} {w} {s} clints uarts blks ends same p q r =
-    subst (λ (n : Kind → ℕ). Ends (record w { stock = n }) s) (same ∙ fun_ext (counted clints uarts blks p q r)) ends
+pub of_boxes : {A : Type 0} {w : World} {s : Status} (clints uarts blks nets : List A) → Ends w s → w.stock ≡ counts (clints ∷ uarts ∷ blks ∷ nets ∷ [])
+    → length clints ≡ 32 → length uarts ≡ 32 → length blks ≡ 64 → nets ≡ [] → Ends (record w { stock = boxes }) s
+of_boxes {A} {w} {s} clints uarts blks nets ends same p q r none =
+    subst (λ (n : Kind → ℕ). Ends (record w { stock = n }) s) (same ∙ fun_ext (counted clints uarts blks nets p q r none)) ends
 
 -- no command ends for want of a device
 pub supplied : AreFew → (w : World) {s : Status} (k : Kind) (wanted had : ℕ) → Ends (record w { stock = boxes }) s → s ≡ Build (build.NoDevice k wanted had) → ⊥

@@ -44,3 +44,5 @@ pub const HOST_TICKS: u64 = 1_000_000;
 pub const EXPERIMENT_FILE: usize = 1_048_576;
 /// Most bytes of an image file.
 pub const IMAGE_FILE: usize = 33_554_432;
+/// Most bytes of a file with the first content of a disk.
+pub const DISK_FILE: usize = 16_777_216;

@@ -1,5 +1,5 @@
 -- What out has taken in a run.
-use Rattle.std.proofs.Common.{◌≡◌, ℕ, ◌≤◌, List, [], Option, refl, sym, arith, append-nil}
+use Rattle.std.proofs.Common.{ℕ, ◌≤◌, List, [], Option, sym, arith, append-nil}
 use Rattle.tb_io.specs.Causes.{Rose}
 use Rattle.tb_io.specs.Puts.{Takes, TakesPart}
 

@@ -13,11 +13,8 @@ use bench_build::Builder;
 use exp_file::Experiment;
 use host_plan::Placement;
 use std::alloc::Global;
-use tb_base::limits::IMAGE_FILE;
+use tb_base::limits::{DISK_FILE, IMAGE_FILE};
 use tb_io::Files;
-
-/// Most bytes of a file with the first content of a disk.
-const DISK_FILE: usize = 16_777_216;
 
 /// Reads the image of the guest of this number, the next one, and hands it to the builder.
 fn load_image<F: Files>(

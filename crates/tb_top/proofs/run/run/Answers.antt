@@ -1,10 +1,8 @@
 -- What a keeper of the journal shows is the journal of the run.
-use Rattle.std.proofs.Common.{◌≡◌, ℕ, List, Option, Result, Ok, Err, inr, sym, subst, ap₂}
+use Rattle.std.proofs.Common.{◌≡◌, ℕ, List, Option, Result, Ok, Err, inr, subst, ap₂}
 use Rattle.exp_file.specs.declared.experiment.Experiment.{Experiment}
 use Rattle.tb_io.specs.declared.write_err.WriteErr.{WriteErr}
 use Rattle.tb_io.specs.declared.write_err.WriteErr.TheVariants.{NoMemory, Failed}
-use Rattle.trace_rec.specs.declared.view.View.{View}
-use Rattle.trace_rec.specs.declared.view.View.TheVariants.{Journal}
 use Rattle.host_journal.specs.Entries.{Entry}
 use Rattle.host_journal.specs.Texts.{entries_text, journal_text}
 use Rattle.host_journal.specs.declared.head.Head.{Head}
@@ -12,7 +10,7 @@ use Rattle.slot_sched.specs.BenchWords.{plan_of}
 use Rattle.slot_sched.specs.Schedule.{Plan, rules}
 use Rattle.guest_machine.specs.Tick.{machine_motion}
 use Rattle.bench_build.specs.Inputs.{Inputs}
-use Rattle.bench_build.specs.Setups.{setup, plan, run_rules}
+use Rattle.bench_build.specs.Setups.{setup, plan}
 use Rattle.tb_top.specs.Runs.{IsHead, RunPuts, Runs}
 use Rattle.tb_top.proofs.run.run.Goals as goal
 

@@ -1,11 +1,9 @@
 -- How each stage of a run ends.
-use Rattle.std.proofs.Common.{◌≡◌, ℕ, ◌≤◌, List, Result, Ok, Err, inl, inr, refl, ◌∙◌, subst}
+use Rattle.std.proofs.Common.{◌≡◌, ℕ, List, Result, Ok, Err, inl, inr, refl, ◌∙◌, subst}
 use Rattle.tb_io.specs.Causes.{WriteCause}
 use Rattle.tb_io.specs.declared.write_err.WriteErr.{WriteErr}
 use Rattle.tb_io.specs.declared.write_err.WriteErr.TheVariants as write
-use Rattle.dev_face.specs.declared.kind.Kind.{Kind}
 use Rattle.exp_file.specs.Lists.{without_room}
-use Rattle.exp_file.specs.declared.experiment.Experiment.{Experiment}
 use Rattle.host_plan.specs.Fits.{Fits, IsFirstOverload}
 use Rattle.host_plan.specs.Placing.{placed}
 use Rattle.host_plan.specs.declared.overload.Overload.{Overload as Over}
@@ -60,11 +58,15 @@ module _ (w : World) (n : ℕ) (a : Asked) (ready : IsReady a) (asked : IsAsked 
       -- its bench was not built
       ends_unbuilt : (fault : BuildFault) → Quiet w → IsUnbuilt a.experiment w.stock fault → Ends w (build_status fault)
       ends_unbuilt build.NoMemory quiet h = no_memory quiet
-      ends_unbuilt (build.NoDevice kind wanted had) quiet h = ended (Run n) _ asked (quiet, fits_so, record {
-        inputs = i;
-        loaded = loaded;
-        holds = record { wanted = h.wanted; had_is = h.had_is; short = h.short; before = h.before };
-      })
+      ends_unbuilt (build.NoDevice kind wanted had) quiet h = ended (Run n) _ asked (
+        quiet,
+        fits_so,
+        record {
+          inputs = i;
+          loaded = loaded;
+          holds = record { wanted = h.wanted; had_is = h.had_is; short = h.short; before = h.before };
+        },
+      )
       ends_unbuilt _ quiet h = absurd h
 
       -- its bench was run
