@@ -1,1 +1,2 @@
 pub mod Dozing
+pub mod Steadiness

@@ -39,20 +39,12 @@ impl Steady {
 }
 
 impl Node for Steady {
-    ghost use Rattle.std.specs.Prelude.{ℕ, Bool, max, [], if◌then◌else◌};
+    ghost use Rattle.std.specs.Prelude.{ℕ, Bool, max, if◌then◌else◌};
+    ghost use Rattle.core_cases.specs.Steadiness.{steady};
 
     ghost State = { ℕ × Bool };
 
-    ghost motion = { record {
-      rate = λ s. s.0;
-      nics = λ s. 0;
-      begin = λ s n arrivals. s;
-      busy = λ s. s.1;
-      step = λ s. s;
-      end = λ s n. s;
-      left = λ s n. [];
-      recs = λ s n. [];
-    } };
+    ghost motion = { steady };
 
     ghost state = { λ s. (s.rate, s.busy) };
 

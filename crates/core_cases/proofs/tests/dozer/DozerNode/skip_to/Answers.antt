@@ -1,4 +1,4 @@
-use Rattle.std.proofs.Common.{◌≡◌, ℕ, ◌-◌, ◌≤◌, ◌^◌, ◌==◌, Bool, false, cond, nat_le, nat_lt, [], ◌∷◌, length, replicate, max, min, refl, ap, arith}
+use Rattle.std.proofs.Common.{◌≡◌, ◌-◌, ◌≤◌, ◌^◌, ◌==◌, false, cond, nat_le, max, min, refl, ap, arith}
 use Rattle.core_cases.specs.Dozing.{dozing}
 use Rattle.core_cases.proofs.Alarm.{not_now}
 use Rattle.core_cases.proofs.Still.{stays}
