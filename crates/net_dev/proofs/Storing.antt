@@ -1,5 +1,5 @@
 -- A store keeps the next tick of a nic, which has nothing in flight.
-use Rattle.std.proofs.Common.{◌≡◌, ℕ, ◌==◌, Bool, true, false, cond, Option, Some, None, sym, subst}
+use Rattle.std.proofs.Common.{◌≡◌, ℕ, ◌==◌, Bool, true, false, cond, Option, Some, sym, subst}
 use Rattle.tb_base.specs.declared.width.Width.{Width}
 use Rattle.virtio_regs.specs.declared.reg_done.RegDone.{RegDone}
 use Rattle.virtio_regs.specs.declared.reg_done.RegDone.TheVariants as reg

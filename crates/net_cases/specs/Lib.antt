@@ -1,0 +1,2 @@
+-- What proofs keep: Ready.
+pub mod Ready
