@@ -1,7 +1,7 @@
 #!/usr/bin/env bash
 # Times 400,000 requests of 4 KiB of blk_dev, reads and writes in turn, against a C program that copies the same blocks
 # between two arrays through a ring of the same shape (disk.c, gcc -O2), and prints the ratio. Then the same on a disk of 512
-# times as many sectors, and how much longer that takes.
+# times as many sectors, whose bytes are zeroed first, and what the requests alone cost there, as a multiple of the first.
 here=$(cd "$(dirname "$0")" && pwd)
 . "$here/../compare.sh"
 
@@ -167,25 +167,28 @@ fn sum_of(ram: &Ram) -> u32 {
     sum
 }
 
-fn run(alloc: Global, sectors: u32) -> Result<u32, NoMemory>
-    requires { (1 ≤ sectors) × (sectors ≤ 32768) }
+fn run(alloc: Global, sectors: u32, ticks: u32) -> Result<u32, NoMemory>
+    requires sectors { (1 ≤ sectors) × (sectors ≤ 32768) }
+    requires ticks { ticks ≤ 2 ^ 20 }
 {
     let mut ram = Ram::new(alloc, SIZE)?;
     let mut log = Log::new(alloc);
     let mut frames = ItemList::new(alloc);
     prepare(&mut ram);
     let mut disk = ready(alloc, sectors, &ram)?;
-    'turns: for now in 0..TICKS {
+    'turns: for now in 0..ticks {
         pass(&mut disk, now, &mut ram, &mut frames, &mut log)?;
     }
     // The last request completes behind the last tick.
-    disk.begin_tick(u64::from(TICKS), &mut ram, &mut frames, &mut log)?;
+    disk.begin_tick(u64::from(ticks), &mut ram, &mut frames, &mut log)?;
     Ok(sum_of(&ram))
 }
 
 fn main(rt: HostRuntime) -> Result<(), anyhow::Error> {
-    let large = env::args(&rt)?.skip(1).next().is_some();
-    let Ok(sum) = run(rt.alloc(), if large { 32768 } else { 64 }) else {
+    let words = env::args(&rt)?.skip(1).count();
+    let sectors = if words > 0 { 32768 } else { 64 };
+    let ticks = if words > 1 { 0 } else { TICKS };
+    let Ok(sum) = run(rt.alloc(), sectors, ticks) else {
         return Ok(());
     };
     println!(rt; "{sum}")?;
@@ -226,10 +229,14 @@ PROOF
 build_both disk
 ours=$work/crates/bench_disk/out/bench_disk
 
+large() { # NAME PROGRAM WORDS.. makes NAME, which runs the program on a large disk
+    printf '#!/bin/sh\nexec %s 32768 %s\n' "$2" "${3:-}" > "$work/$1"
+    chmod +x "$work/$1"
+}
+large ours_large "$ours"
+large ours_set_up "$ours" none
+large c_large "$work/disk_c"
 compare "blk_dev, 64 sectors" "$ours" "$work/disk_c"
-for kind in ours c; do
-    [ $kind = ours ] && program=$ours || program=$work/disk_c
-    printf '#!/bin/sh\nexec %s 32768\n' "$program" > "$work/large_$kind"
-    chmod +x "$work/large_$kind"
-done
-compare "blk_dev, 32768 sectors" "$work/large_ours" "$work/large_c"
+compare "blk_dev, 32768 sectors" "$work/ours_large" "$work/c_large"
+small=$(least "$ours") all=$(least "$work/ours_large") set_up=$(least "$work/ours_set_up")
+echo "requests alone, 32768 sectors against 64: ratio $(awk "BEGIN { printf \"%.2f\", ($all - $set_up) / $small }")"
