@@ -178,6 +178,42 @@ fn finished<D: Device>(builder: Builder, stock: [Vec<D>; 4]) -> Option<BuildFaul
     }
 }
 
+/// Why no bench is built of so many boxes of devices, if none is.
+fn fault_of_stock(
+    alloc: Global,
+    case: &Case,
+    builder: Builder,
+) -> Result<Option<BuildFault>, NoMemory>
+    requires images { images_added builder ≡ images_wanted builder }
+    requires disks { disks_added builder ≡ disks_wanted builder }
+{
+    let mut clints: Vec<Box<dyn Device>> = Vec::new(alloc);
+    for _ in 0..case.clints {
+        let Ok(clint) = Box::new(alloc, Clint::new(alloc)) else {
+            return Err(NoMemory);
+        };
+        let clint: Box<dyn Device> = clint;
+        add(&mut clints, clint, Kind::Clint)?;
+    }
+    let mut uarts: Vec<Box<dyn Device>> = Vec::new(alloc);
+    for _ in 0..case.uarts {
+        let Ok(uart) = Box::new(alloc, Uart::new(alloc)) else {
+            return Err(NoMemory);
+        };
+        let uart: Box<dyn Device> = uart;
+        add(&mut uarts, uart, Kind::Uart)?;
+    }
+    let mut blks: Vec<Box<dyn Device>> = Vec::new(alloc);
+    for _ in 0..case.blks {
+        let Ok(blk) = Box::new(alloc, Blk::new(alloc)) else {
+            return Err(NoMemory);
+        };
+        let blk: Box<dyn Device> = blk;
+        add(&mut blks, blk, Kind::Blk)?;
+    }
+    Ok(finished(builder, [clints, uarts, blks, Vec::new(alloc)]))
+}
+
 /// Why no bench is built, if none is.
 fn fault_of(alloc: Global, case: &Case) -> Result<Option<BuildFault>, Fail> {
     let Ok(e) = read_experiment(alloc, EXPERIMENT.as_bytes()) else {
@@ -200,31 +236,7 @@ fn fault_of(alloc: Global, case: &Case) -> Result<Option<BuildFault>, Fail> {
         Ok(()) => (),
         Err(fault) => return Ok(Some(fault)),
     }
-    let mut clints: Vec<Box<dyn Device>> = Vec::new(alloc);
-    for _ in 0..case.clints {
-        let Ok(clint) = Box::new(alloc, Clint::new(alloc)) else {
-            return Err(NoMemory.into());
-        };
-        let clint: Box<dyn Device> = clint;
-        add(&mut clints, clint, Kind::Clint)?;
-    }
-    let mut uarts: Vec<Box<dyn Device>> = Vec::new(alloc);
-    for _ in 0..case.uarts {
-        let Ok(uart) = Box::new(alloc, Uart::new(alloc)) else {
-            return Err(NoMemory.into());
-        };
-        let uart: Box<dyn Device> = uart;
-        add(&mut uarts, uart, Kind::Uart)?;
-    }
-    let mut blks: Vec<Box<dyn Device>> = Vec::new(alloc);
-    for _ in 0..case.blks {
-        let Ok(blk) = Box::new(alloc, Blk::new(alloc)) else {
-            return Err(NoMemory.into());
-        };
-        let blk: Box<dyn Device> = blk;
-        add(&mut blks, blk, Kind::Blk)?;
-    }
-    Ok(finished(builder, [clints, uarts, blks, Vec::new(alloc)]))
+    Ok(fault_of_stock(alloc, case, builder)?)
 }
 
 #[test]

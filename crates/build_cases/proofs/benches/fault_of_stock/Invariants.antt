@@ -2,8 +2,8 @@ use Rattle.std.proofs.Common.{◌≡◌, All, map}
 use Rattle.dev_face.specs.States.{Blank}
 use Rattle.dev_face.specs.declared.kind.Kind.TheVariants as kind
 use Rattle.dev_face.specs.contracts.boxed.BoxDynDeviceDevice.TheImpl.{state-value}
-use Rattle.build_cases.proofs.benches.fault_of.OwnLists.{own-1, lawful-own-1}
-use Rattle.build_cases.proofs.benches.fault_of.Given as goal
+use Rattle.build_cases.proofs.benches.fault_of_stock.OwnLists.{own-1, lawful-own-1}
+use Rattle.build_cases.proofs.benches.fault_of_stock.Given as goal
 
 abbrev pub invariant-loop : goal.invariant-loop
 invariant-loop l = All (λ s. s ≡ Blank kind.Clint) (map (state-value (own-1, lawful-own-1)).it l.clints.items)
