@@ -46,7 +46,7 @@ world words G files files_after H out out_after stock = record {
 abbrev pub by_kind : {A Z : Type 0} → Vec A Z → Vec A Z → Vec A Z → Vec A Z → List (List A)
 by_kind clints uarts blks nets = clints.items ∷ uarts.items ∷ blks.items ∷ nets.items ∷ []
 
-abbrev pub sizes : Stock → Kind → ℕ
+abbrev pub sizes : {X : Type 0} {P : X → Type 0} → Stock X P → Kind → ℕ
 sizes s = counts (by_kind s.clints s.uarts s.blks s.nets)
 
 -- the bytes of words
