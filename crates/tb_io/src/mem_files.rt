@@ -1,5 +1,5 @@
 //! Files in memory.
-ghost use Rattle.std.specs.Prelude.{◌≡◌, ◌≢◌, ◌<◌, ℕ, List, None, Some, Err, OnOk, OnErr, if◌then◌else◌};
+ghost use Rattle.std.specs.Prelude.{◌≡◌, ◌≢◌, ◌<◌, ℕ, List, None, Some, Err, OnOk, OnErr, option_copied, if◌then◌else◌};
 ghost use Rattle.tb_io.specs.Reads.{Answers, Faults, Gives, is_fault};
 ghost use Rattle.tb_io.specs.FilesInMemory.{held_in, reads_of, no_reads, failing_too, file_within, next_read, after_read};
 ghost use Rattle.tb_io.specs.Causes.{faults_after};
@@ -55,6 +55,13 @@ impl MemFiles {
         }
     }
 
+    /// The bytes of a name that was added.
+    pub(crate) fn bytes_of(&self, name: &str) -> Option<&[u8]>
+        ensures { option_copied result ≡ held_in self.now name.now }
+    {
+        self.entries.get(name).map(|bytes| bytes.as_slice())
+    }
+
     /// Lets the read of this number fail, where the first read has number 1.
     pub fn fail_read(&mut self, call: u64) -> Result<(), NoMemory>
         ensures ok { OnOk result (reads_of self.new ≡ failing_too (reads_of self.old) call) }
@@ -86,7 +93,7 @@ fn count_fault(alloc: Global, name: &str, faults: &mut u64, fault_name: &mut Vec
 }
 
 /// A copy of a file's bytes, of which there are at most so many.
-fn copy_within(alloc: Global, bytes: &[u8], limit: usize) -> Result<Vec<u8>, ReadErr>
+pub(crate) fn copy_within(alloc: Global, bytes: &[u8], limit: usize) -> Result<Vec<u8>, ReadErr>
     ensures { Gives (file_within (Some bytes.now) limit) result }
 {
     if bytes.len() > limit {
