@@ -92,6 +92,8 @@ impl SplitQueue {
 
     /// Takes the next chain that the driver made available. Where there is none, or where the rings or the chain are
     /// malformed, nothing changes.
+    // A chain is large: a call would move it twice more.
+    #[inline(always)]
     pub fn take_chain(&mut self, ram: &Ram) -> Took
         ensures answer { result ≡ took ram.now self.old }
         ensures after { self.new ≡ after_take self.old result }

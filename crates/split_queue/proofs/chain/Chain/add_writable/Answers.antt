@@ -1,4 +1,4 @@
-use Rattle.std.proofs.Common.{◌<◌, length, arith}
+use Rattle.std.proofs.Common.{◌<◌, arith}
 use Rattle.split_queue.proofs.OneTable.{room_left, writable_added}
 use Rattle.split_queue.proofs.chain.Chain.add_writable.Goals as goal
 
