@@ -1,0 +1,11 @@
+//! Laws of generated loads.
+ghost use Rattle.std.specs.Prelude.{◌≡◌, ◌≤◌, ℕ, length};
+ghost use Rattle.exp_file.specs.WellFormed.{IsWellFormed};
+ghost use Rattle.gen_load.specs.Images.{guest_image};
+ghost use Rattle.gen_load.specs.Loads.{ring};
+
+/// The experiment of each load is well formed, and its images have 22,528 bytes.
+pub fn loads_are_right()
+    ensures well_formed { (n : ℕ) → 2 ≤ n → n ≤ 32 → IsWellFormed (ring n) }
+    ensures sizes { (n i : ℕ) → length (guest_image n i) ≡ 22528 }
+{}
