@@ -33,6 +33,14 @@ struct Asked {
     room: u32,
 }
 
+/// A flush: 16 bytes to read, and one to write.
+const FLUSH: Asked = Asked {
+    kind: 4,
+    sector: 0,
+    data: 0,
+    room: 1,
+};
+
 /// The driver puts a request, as its first descriptors, and makes it available as one of so many in all.
 fn ask(ram: &mut Ram, asked: Asked, count: u32)
     ensures { length ram.new ≡ length ram.old }
@@ -61,8 +69,8 @@ fn tell(disk: &mut Blk, now: u64, ram: &Ram, off: u32, value: u32)
     let _ = disk.store(now, 4 * register, Width::Word, value);
 }
 
-/// The driver brings the disk up, as section 3.1.1 of the standard says, and notifies its queue.
-fn bring_up(disk: &mut Blk, now: u64, ram: &Ram)
+/// The driver brings the disk up, as section 3.1.1 of the standard says, with a used ring there, and notifies its queue.
+fn bring_up(disk: &mut Blk, now: u64, ram: &Ram, used: u32)
     requires { IsComing now (length ram.now) (blk_state disk.old) }
     ensures { IsComing now (length ram.now) (blk_state disk.new) }
 {
@@ -75,7 +83,7 @@ fn bring_up(disk: &mut Blk, now: u64, ram: &Ram)
         (0x38, 4),
         (0x80, TABLE),
         (0x90, AVAILABLE),
-        (0xa0, USED),
+        (0xa0, used),
         (0x44, 1),
         (0x70, 15),
         (0x50, 0),
@@ -85,7 +93,7 @@ fn bring_up(disk: &mut Blk, now: u64, ram: &Ram)
 }
 
 /// A disk of one sector, whose first bytes are 7, 8 and 9, that took its request at the end of tick 10.
-fn taken(alloc: Global, ram: &mut Ram, log: &mut Log) -> Result<Blk, NoMemory>
+fn taken(alloc: Global, used: u32, ram: &mut Ram, log: &mut Log) -> Result<Blk, NoMemory>
     ensures { IfOk result (λ disk. IsComing 11 (length ram.new) (blk_state disk)) }
 {
     let mut disk = Blk::new(alloc);
@@ -104,7 +112,7 @@ fn taken(alloc: Global, ram: &mut Ram, log: &mut Log) -> Result<Blk, NoMemory>
     disk.skip_to(10);
     let mut frames = ItemList::new(alloc);
     disk.begin_tick(10, ram, &mut frames, log)?;
-    bring_up(&mut disk, 11, ram);
+    bring_up(&mut disk, 11, ram, used);
     disk.end_tick(10, ram, &mut frames, log)?;
     Ok(disk)
 }
@@ -170,7 +178,7 @@ fn outcome(
     let mut log = Log::new(alloc);
     let mut ram = Ram::new(alloc, 8192)?;
     ask(&mut ram, asked, 1);
-    let mut disk = taken(alloc, &mut ram, &mut log)?;
+    let mut disk = taken(alloc, USED, &mut ram, &mut log)?;
     wait(alloc, &mut disk, 11, &mut ram, &mut log)?;
     let status = DATA.wrapping_add(asked.room).wrapping_sub(1);
     Ok((
@@ -227,7 +235,7 @@ fn what_is_written_is_read(rt: HostRuntime) -> Result<(), Fail> {
     };
     ask(&mut ram, write, 1);
     let _ = ram.store(HEADER + 16, Width::Word, 0x0403_0201);
-    let mut disk = taken(alloc, &mut ram, &mut log)?;
+    let mut disk = taken(alloc, USED, &mut ram, &mut log)?;
     // The bytes are those that stand in RAM when the request completes.
     let _ = ram.store(HEADER + 20, Width::Word, 5);
     wait(alloc, &mut disk, 11, &mut ram, &mut log)?;
@@ -257,58 +265,100 @@ fn requests_in_flight_are_forgotten(rt: HostRuntime) -> Result<(), Fail> {
         let alloc = rt.alloc();
         let mut log = Log::new(alloc);
         let mut ram = Ram::new(alloc, 8192)?;
-        let flush = Asked {
-            kind: 4,
-            sector: 0,
-            data: 0,
-            room: 1,
-        };
-        ask(&mut ram, flush, 1);
-        let mut disk = taken(alloc, &mut ram, &mut log)?;
+        ask(&mut ram, FLUSH, 1);
+        let mut disk = taken(alloc, USED, &mut ram, &mut log)?;
         assert!(rt; disk.end_idle() && disk.next_due() == Some(15));
         tell(&mut disk, 11, &ram, off, 0);
         assert!(rt; disk.end_idle() && disk.next_due().is_none());
-        bring_up(&mut disk, 11, &ram);
         pass(alloc, &mut disk, 11, &mut ram, &mut log)?;
+        bring_up(&mut disk, 12, &ram, USED);
+        pass(alloc, &mut disk, 12, &mut ram, &mut log)?;
         assert!(rt; disk.next_due() == Some(20));
-        wait(alloc, &mut disk, 12, &mut ram, &mut log)?;
+        wait(alloc, &mut disk, 13, &mut ram, &mut log)?;
         assert!(rt; log.len() == 0 && ram.load(USED, Width::Word) == Ok(0));
-        wait(alloc, &mut disk, 17, &mut ram, &mut log)?;
+        wait(alloc, &mut disk, 18, &mut ram, &mut log)?;
         assert_eq!(rt; told(&log), Some((20, 4, 0, 0, 0)));
     }
     Ok(())
 }
 
-#[test]
-fn a_looping_chain_breaks_the_disk(rt: HostRuntime) -> Result<(), Fail> {
-    let alloc = rt.alloc();
+/// A word that changes nothing.
+const NONE: (u32, u32) = (0x8000_1f00, 0);
+
+/// Whether a disk that takes a flush at the end of tick 10 breaks then for this reason, and does nothing more, where its used
+/// ring stands here and these words stand in RAM.
+fn breaks(alloc: Global, used: u32, words: [(u32, u32); 3], reason: Why) -> Result<bool, NoMemory> {
     let mut log = Log::new(alloc);
     let mut ram = Ram::new(alloc, 8192)?;
-    let read = Asked {
-        kind: 0,
-        sector: 0,
-        data: 0,
-        room: 513,
-    };
-    ask(&mut ram, read, 1);
-    // The second descriptor names the first one.
-    let _ = ram.store(TABLE + 28, Width::Word, 0x0000_0001);
-    let disk = taken(alloc, &mut ram, &mut log)?;
+    ask(&mut ram, FLUSH, 1);
+    for (addr, word) in words {
+        let _ = ram.store(addr, Width::Word, word);
+    }
+    let mut disk = taken(alloc, used, &mut ram, &mut log)?;
+    wait(alloc, &mut disk, 11, &mut ram, &mut log)?;
     let Some(rec) = log.get(0) else {
-        panic!(rt; "no record");
+        return Ok(false);
     };
-    assert!(rt;
-        matches!(
-            rec.what,
-            What::Broken {
-                slot: 0,
-                why: Why::Loop
-            }
-        )
+    let tells = matches!(rec.what, What::Broken { slot: 0, why } if why == reason);
+    let status = (
+        disk.load(16, 0x60, Width::Word),
+        disk.load(16, 0x70, Width::Word),
     );
-    assert!(rt; disk.lines(10).external);
-    for (off, want) in [(0x60, 2), (0x70, 0x4f)] {
-        assert!(rt; disk.load(10, off, Width::Word) == Some(want), "at {off:x}");
+    Ok(
+        tells
+            && rec.tick == 10
+            && log.len() == 1
+            && disk.lines(16).external
+            && status == (Some(2), Some(0x4f)),
+    )
+}
+
+/// Each queue is well formed but for what the row says: a used ring that ends behind RAM, an index that is five ahead, a head
+/// that is no descriptor, one head twice, a descriptor that names itself, one that names the one before it, an indirect one, one
+/// at the last byte of RAM with two bytes, one at the last byte of all with two bytes, a readable one behind a writable one, a next that
+/// is no descriptor, and a request with 15 bytes to read.
+#[test]
+fn malformed_queues_break_the_disk(rt: HostRuntime) -> Result<(), Fail> {
+    for (used, words, why) in [
+        (0x8000_1ffe, [NONE, NONE, NONE], Why::RingOutside),
+        (
+            USED,
+            [(AVAILABLE, 0x0005_0000), NONE, NONE],
+            Why::IndexAhead,
+        ),
+        (USED, [(AVAILABLE + 4, 4), NONE, NONE], Why::HeadRange),
+        (USED, [(AVAILABLE, 0x0002_0000), NONE, NONE], Why::HeadOut),
+        (USED, [(TABLE + 12, 0x0000_0001), NONE, NONE], Why::Loop),
+        (USED, [(TABLE + 28, 0x0000_0001), NONE, NONE], Why::Loop),
+        (USED, [(TABLE + 12, 0x0001_0005), NONE, NONE], Why::Indirect),
+        (
+            USED,
+            [(TABLE, 0x8000_1fff), (TABLE + 8, 2), NONE],
+            Why::RangeOutside,
+        ),
+        (
+            USED,
+            [
+                (TABLE, 0xffff_ffff),
+                (TABLE + 4, 0xffff_ffff),
+                (TABLE + 8, 2),
+            ],
+            Why::RangeOutside,
+        ),
+        (
+            USED,
+            [(TABLE + 12, 0x0001_0003), (TABLE + 28, 0), NONE],
+            Why::OrderWrong,
+        ),
+        (
+            USED,
+            [(TABLE + 12, 0x0004_0001), NONE, NONE],
+            Why::NextRange,
+        ),
+        (USED, [(TABLE + 8, 15), NONE, NONE], Why::ShortRequest),
+    ] {
+        let right = breaks(rt.alloc(), used, words, why)?;
+        assert!(rt; right, "{why:?}");
     }
     Ok(())
 }
