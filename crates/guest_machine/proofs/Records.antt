@@ -1,12 +1,13 @@
 -- What a machine records of a tick names it.
-use Rattle.std.proofs.Common.{◌≡◌, ◌∙◌, ℕ, zero, suc, ◌+◌, List, [], ◌∷◌, ◌++◌, Bool, true, false, cond, Option, Some, None, refl, sym, subst, inl}
+use Rattle.std.proofs.Common.{◌≡◌, ◌∙◌, ℕ, zero, suc, ◌+◌, List, [], ◌∷◌, Bool, true, false, cond, Option, Some, None, refl, sym, subst, inl}
 use Rattle.trace_rec.specs.Ticks.{AreOf}
-use Rattle.trace_rec.specs.declared.rec.Rec.{Rec}
 use Rattle.dev_face.specs.States.{DevState}
-use Rattle.dev_face.specs.Calls.{Ended}
+use Rattle.dev_face.specs.Calls.{Ended, dev_end}
 use Rattle.dev_face.proofs.DeviceRecords.{dev_begin_of, dev_end_of}
 use Rattle.dev_face.proofs.Recorded.{are_of_both}
-use Rattle.dev_list.specs.Walks.{walk, arriving, begin_one, end_one}
+use Rattle.link_pipe.specs.PipeStates.{PipeState}
+use Rattle.dev_list.specs.Sending.{pipe_of, offer_one, offer_recs, sending}
+use Rattle.dev_list.specs.Walks.{walk, nic_of, arriving, begin_one, end_one}
 use Rattle.lookahead_core.specs.Motion.{steps}
 use Rattle.lookahead_core.specs.Synchronous.{Setup, records_of, run_out, begun, arrivals, sys}
 use Rattle.rv_exec.specs.HartState.{HartState}
@@ -30,8 +31,20 @@ begin_of : (n : ℕ) (s : MapState) (lists : List (List (List ℕ))) → AreOf n
 begin_of n s lists =
     walk_of n (begin_one n (arriving (first_nic s) lists)) (λ i d ram. dev_begin_of d n ram (arriving (first_nic s) lists i)) 0 s.devices s.ram
 
+-- what is recorded of the frames that a nic offers to its pipe
+offers_of : (n nic : ℕ) (pipe : Option PipeState) (frames : List (List ℕ)) → AreOf n (offer_recs n nic pipe frames)
+offers_of n nic pipe [] = tt
+offers_of n nic pipe (f ∷ fs) = (refl, offers_of n nic (offer_one n pipe f) fs)
+
+sending_of : (n : ℕ) (pipes : List (Option PipeState)) (nic : Option ℕ) (frames : List (List ℕ)) → AreOf n (sending n pipes nic frames)
+sending_of n pipes None frames = tt
+sending_of n pipes (Some nic) frames = offers_of n nic (pipe_of pipes nic) frames
+
 end_of : (n : ℕ) (s : MapState) → AreOf n (devices_end s n).recs
-end_of n s = walk_of n (end_one n) (λ i d ram. dev_end_of d n ram) 0 s.devices s.ram
+end_of n s =
+    walk_of n (end_one n (first_nic s) s.pipes)
+    (λ i d ram. are_of_both n (dev_end d n ram).recs (sending n s.pipes (nic_of (first_nic s) i) (dev_end d n ram).frames)
+    (dev_end_of d n ram) (sending_of n s.pipes (nic_of (first_nic s) i) (dev_end d n ram).frames)) 0 s.devices s.ram
 
 -- the records of a step
 more_of : (n : ℕ) (halted : Bool) (sent : Option ℕ) → AreOf n (more_recs n halted sent)
