@@ -1,3 +1,3 @@
 pub mod Claims
-pub mod Loading
-pub mod Putting
+mod Common
+mod Loading
