@@ -7,12 +7,14 @@ ghost use Rattle.words_line.specs.Usual.{IsPlain};
 ghost use Rattle.words_line.specs.Words.{command};
 ghost use Rattle.words_line.specs.declared.command.Command.TheVariants.{Run, Plan, Gen};
 
-/// A command, what it is about, and its options behind them or between them, with `--` before what it is about.
+/// What words mean in their usual orders: a command, what it is about, and its options behind them, or
+/// between them with `--` before what it is about.
 pub fn usual_words()
     ensures places { (a b t v : List ℕ) → IsPlain a → IsPlain b → IsPlain t → IsPlain v
         → places (a ∷ b ∷ codes "--host-ticks" ∷ t ∷ codes "--view" ∷ v ∷ []) ≡ Some (record { command = a; about = b; host_ticks = Some t; view = Some v }) }
     ensures dashes { (a b t v : List ℕ) → IsPlain a → IsPlain t → IsPlain v
-        → places (a ∷ codes "--host-ticks" ∷ t ∷ codes "--view" ∷ v ∷ codes "--" ∷ b ∷ []) ≡ Some (record { command = a; about = b; host_ticks = Some t; view = Some v }) }
+        → places (a ∷ codes "--host-ticks" ∷ t ∷ codes "--view" ∷ v ∷ codes "--" ∷ b ∷ [])
+        ≡ Some (record { command = a; about = b; host_ticks = Some t; view = Some v }) }
     ensures two { (a b : List ℕ) → IsPlain a → IsPlain b → places (a ∷ b ∷ []) ≡ Some (record { command = a; about = b; host_ticks = None; view = None }) }
     ensures run { (file : List ℕ) (n : ℕ) → IsPlain file → 1 ≤ length file → n ≤ 1000000
         → command (codes "run" ∷ file ∷ codes "--host-ticks" ∷ decimal n ∷ codes "--view" ∷ codes "journal" ∷ []) ≡ Ok (Run file n Journal) }
