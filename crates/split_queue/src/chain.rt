@@ -8,7 +8,7 @@ use std::marker::Model;
 /// A chain of descriptors. What its readable ranges hold, joined, is one stream, which the device reads; the writable
 /// ranges, joined, are another one, which the device writes.
 ///
-/// The readable ones come first, so that one table holds them all, and a chain is cheap to move.
+/// The readable ones come first, so one table holds them all.
 #[derive(Debug, Drop)]
 pub struct Chain {
     /// The place of its first descriptor, by which the chain is put back.

@@ -1,5 +1,5 @@
 //! A split queue.
-ghost use Rattle.std.specs.Prelude.{◌≡◌, ℕ, ◌≤◌, ◌<◌, ◌%◌, ◌==◌, Bool, false, replicate, [], length, Result, Option, IfOk, IfSome, OnOk, MatchResult, Ok, Err};
+ghost use Rattle.std.specs.Prelude.{◌≡◌, ℕ, ◌≤◌, ◌<◌, ◌%◌, ◌==◌, Bool, false, replicate, [], length, Result, Option, IfOk, IfErr, IfSome, OnOk, Ok, Err};
 ghost use Rattle.split_queue.specs.Chains.{chain_of};
 ghost use Rattle.split_queue.specs.Queues.{Queue, IsSize, queue_of, marked};
 ghost use Rattle.split_queue.specs.Paths.{start, walked};
@@ -85,7 +85,8 @@ impl SplitQueue {
         requires rings { RingsIn ram.now self.now.size self.now.desc self.now.avail self.now.used }
         requires inside { head < self.now.size }
         requires blank { chain.old ≡ chain_of head [] [] }
-        ensures { MatchResult result (λ _. Ok chain.new ≡ walked (start ram.now self.now.desc self.now.size head)) (λ why. Err why ≡ walked (start ram.now self.now.desc self.now.size head)) }
+        ensures ok { OnOk result (Ok chain.new ≡ walked (start ram.now self.now.desc self.now.size head)) }
+        ensures err { IfErr result (λ why. Err why ≡ walked (start ram.now self.now.desc self.now.size head)) }
     {
         walk(ram, self.desc, self.size, head, chain)
     }

@@ -1,5 +1,5 @@
 //! The walk along a chain.
-ghost use Rattle.std.specs.Prelude.{◌≡◌, ◌+◌, ◌*◌, ◌^◌, ◌≤◌, ◌<◌, Bool, false, [], length, ◌||◌, IfNone, MatchResult, Ok, Err};
+ghost use Rattle.std.specs.Prelude.{◌≡◌, ◌+◌, ◌*◌, ◌^◌, ◌≤◌, ◌<◌, Bool, false, [], length, ◌||◌, IfNone, IfErr, OnOk, Ok, Err};
 ghost use Rattle.split_queue.specs.Sizes.{InRam};
 ghost use Rattle.split_queue.specs.Chains.{chain_of};
 ghost use Rattle.split_queue.specs.Paths.{start, walked, fault_of};
@@ -69,7 +69,8 @@ pub(crate) fn walk(
     requires size { size ≤ 64 }
     requires head { head < size }
     requires blank { chain.old ≡ chain_of head [] [] }
-    ensures { MatchResult result (λ _. Ok chain.new ≡ walked (start ram.now table size head)) (λ why. Err why ≡ walked (start ram.now table size head)) }
+    ensures ok { OnOk result (Ok chain.new ≡ walked (start ram.now table size head)) }
+    ensures err { IfErr result (λ why. Err why ≡ walked (start ram.now table size head)) }
 {
     let mut met = [false; 64];
     let mut after = false;

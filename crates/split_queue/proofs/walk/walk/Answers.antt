@@ -14,13 +14,13 @@ steps-init c =
     let s : Start = start c.args.ram.now c.args.table c.args.size c.args.head in
     subst (λ (x : ChainOf). Along s 0 c.args.head (replicate 64 false) false x) (sym c.requires.blank) (along_start s c.requires.size c.requires.head)
 
-pub returns-then-met-place : goal.returns-then-met-place
-returns-then-met-place c =
+pub returns-then-met-place-clause-err : goal.returns-then-met-place-clause-err
+returns-then-met-place-clause-err c =
     let s : Start = start c.args.ram.now c.args.table c.args.size c.args.head in
     sym (along_met s c.steps.steps c.steps.place c.steps.met c.steps.after c.steps.chain c.steps.invariant c.if-met-place.true)
 
-pub returns-in-Some : goal.returns-in-Some
-returns-in-Some c =
+pub returns-in-Some-clause-err : goal.returns-in-Some-clause-err
+returns-in-Some-clause-err c =
     let s : Start = start c.args.ram.now c.args.table c.args.size c.args.head in
     let g : fault_of s.ram s.size c.steps.after (descriptor_at s.ram s.table c.steps.place) ≡ Some c.in-Some.why = ap (λ (d : Descriptor). fault_of s.ram s.size c.steps.after d) (sym c.descriptor_at-d.ensures) ∙ (sym c.fault_of.ensures.is ∙ c.in-Some.is) in
     sym (along_fault s c.steps.steps c.steps.place c.steps.met c.steps.after c.steps.chain c.in-Some.why c.steps.invariant c.if-met-place.false g)
@@ -37,8 +37,8 @@ add-requires-clause-order c w =
     let g : fault_of s.ram s.size c.steps.after (descriptor_at s.ram s.table c.steps.place) ≡ None = ap (λ (d : Descriptor). fault_of s.ram s.size c.steps.after d) (sym m) ∙ (sym c.fault_of.ensures.is ∙ c.in-None.is) in
     along_first s c.steps.steps c.steps.place c.steps.met c.steps.after c.steps.chain c.steps.invariant g (ap (λ (d : Descriptor). d.writable) (sym m) ∙ w)
 
-pub returns-then-not-d : goal.returns-then-not-d
-returns-then-not-d c =
+pub returns-then-not-d-clause-ok : goal.returns-then-not-d-clause-ok
+returns-then-not-d-clause-ok c =
     let s : Start = start c.args.ram.now c.args.table c.args.size c.args.head in
     let m = c.descriptor_at-d.ensures in
     let g : fault_of s.ram s.size c.steps.after (descriptor_at s.ram s.table c.steps.place) ≡ None = ap (λ (d : Descriptor). fault_of s.ram s.size c.steps.after d) (sym m) ∙ (sym c.fault_of.ensures.is ∙ c.in-None.is) in
