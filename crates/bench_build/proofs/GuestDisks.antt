@@ -1,5 +1,5 @@
 -- The disks of guests: one more, their limits, and how many there are.
-use Rattle.std.proofs.Common.{◌≡◌, ◌==◌, ℕ, zero, suc, ◌+◌, ◌<◌, ◌≤◌, Bool, true, false, cond, inl, inr, List, [], ◌∷◌, ◌++◌, map, replicate, set, get_or, length, All, Some, refl, sym, ap, ◌∙◌, subst, arith}
+use Rattle.std.proofs.Common.{◌≡◌, ◌==◌, ℕ, zero, suc, ◌+◌, ◌<◌, ◌≤◌, Bool, true, false, cond, inl, inr, List, [], ◌∷◌, ◌++◌, map, replicate, set, get_or, length, All, Some, refl, sym, ap, ◌∙◌, arith}
 use Rattle.std.specs.Prelude.{slice_get}
 use Rattle.std.proofs.lemmas.Bool.{cases_eq, eq-eqb, ne_eqb}
 use Rattle.std.specs.declared.vec.Vec.{Vec}
@@ -8,16 +8,14 @@ use Rattle.std.proofs.lemmas.List.Elements.{All-nil, All-cons, All-head, All-tai
 use Rattle.std.proofs.lemmas.List.Sums.{sum_by-cons, count_by-le-length}
 use Rattle.dev_face.specs.States.{IsInLimits, config_kind}
 use Rattle.dev_face.specs.declared.config.DevConfig.{DevConfig}
-use Rattle.dev_face.specs.declared.kind.Kind.{Kind}
 use Rattle.dev_face.specs.declared.kind.Kind.TheVariants as kind
 use Rattle.exp_file.specs.Disks.{disks_of}
 use Rattle.exp_file.specs.WellFormed.{IsDisk}
 use Rattle.exp_file.specs.declared.disk_spec.DiskSpec.{DiskSpec}
-use Rattle.exp_file.specs.declared.experiment.Experiment.{Experiment}
 use Rattle.bench_build.specs.Answers.{Fills}
 use Rattle.bench_build.specs.Setups.{disk_config, disk_configs}
-use Rattle.bench_build.specs.Stocks.{rank, needs, items_of}
-use Rattle.bench_build.specs.Takings.{AreDisks, number_for, with_base, disks_at, guests_take}
+use Rattle.bench_build.specs.Stocks.{items_of}
+use Rattle.bench_build.specs.Takings.{AreDisks, disks_at}
 
 -- what is said of a choice
 pub pick : {A : Type 0} (P : A → Type 0) (t : Bool) (x y : A) → (t ≡ true → P x) → (t ≡ false → P y) → P (cond t x y)

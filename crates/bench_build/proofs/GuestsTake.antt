@@ -1,5 +1,5 @@
 -- What the guests take of a stock is what their experiment needs.
-use Rattle.std.proofs.Common.{◌≡◌, ◌==◌, ℕ, zero, suc, ◌+◌, ◌<◌, ◌≤◌, false, cond, inl, inr, List, [], ◌∷◌, ◌++◌, map, replicate, length, refl, sym, ap, ◌∙◌, subst, arith}
+use Rattle.std.proofs.Common.{◌≡◌, ◌==◌, ℕ, zero, suc, ◌+◌, ◌<◌, ◌≤◌, false, cond, inl, inr, List, [], ◌∷◌, ◌++◌, map, replicate, length, refl, ap, ◌∙◌, arith}
 use Rattle.std.specs.List.{sum}
 use Rattle.std.proofs.lemmas.Bool.{cases_eq, eq-eqb, ne_eqb}
 use Rattle.std.proofs.lemmas.List.Sums.{sum_by-cons}
@@ -117,10 +117,10 @@ takes_within e bs others same = elim [
     guests : ℕ
     guests = length e.guests.items
 
-    abbrev disks : ℕ → List DevConfig
+    disks : ℕ → List DevConfig
     disks g = disk_configs g 0 e.disks.items bs
 
-    abbrev nics : ℕ → List DevConfig
+    nics : ℕ → List DevConfig
     nics g = nic_configs g (disks_of g e.disks.items) (nics_of e.guests.items g)
 
     parts : (k : Kind) (g : ℕ) → g < guests → number_for k (others g) ≡ number_for k (disks g) + number_for k (nics g)

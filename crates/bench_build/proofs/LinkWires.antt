@@ -1,10 +1,10 @@
 -- The wires of links join nics that are there, and no two begin or end at one nic; the pipes of links are within their limits.
-use Rattle.std.proofs.Common.{◌≡◌, ◌==◌, ◌&&◌, ℕ, zero, suc, ◌+◌, ◌<◌, ◌≤◌, Bool, true, false, cond, List, [], ◌∷◌, ◌++◌, append_assoc, map, length, take, get_or, All, Some, IfSome, refl, sym, ap, ◌∙◌, subst, arith}
+use Rattle.std.proofs.Common.{◌≡◌, ◌==◌, ◌&&◌, ℕ, zero, suc, ◌+◌, ◌<◌, ◌≤◌, Bool, true, false, cond, List, [], ◌∷◌, ◌++◌, append_assoc, map, length, take, get_or, All, Option, Some, IfSome, refl, sym, ap, ◌∙◌, subst, arith}
 use Rattle.std.specs.Prelude.{slice_get}
 use Rattle.std.specs.List.{count_by, find, flat_map, range_with_len}
 use Rattle.std.specs.Option.{option_map}
 use Rattle.std.proofs.lemmas.Bool.{eq-eqb}
-use Rattle.std.proofs.lemmas.List.{flat_map_more, take_more, length-map}
+use Rattle.std.proofs.lemmas.List.{flat_map_more, take_more}
 use Rattle.std.proofs.lemmas.List.Elements.{All-nil, All-cons, All-head, All-tail}
 use Rattle.std.proofs.lemmas.List.FromFn.{length-map-range_with_len}
 use Rattle.std.proofs.lemmas.List.Sums.{sum_by-cons, get_or-le-sum_by}
@@ -13,7 +13,6 @@ use Rattle.exp_file.specs.WellFormed.{IsGuest, IsLink}
 use Rattle.exp_file.specs.declared.guest_spec.GuestSpec.{GuestSpec}
 use Rattle.exp_file.specs.declared.link_spec.LinkSpec.{LinkSpec}
 use Rattle.link_pipe.specs.Piped.{InLimits}
-use Rattle.link_pipe.specs.declared.pipe_params.PipeParams.{PipeParams}
 use Rattle.lookahead_core.specs.Opening.{AreOnceFrom, AreOnceTo, IsJoin}
 use Rattle.lookahead_core.specs.declared.wire.Wire.{Wire}
 use Rattle.guest_machine.specs.Tick.{MachineState, machine_motion}
@@ -29,16 +28,16 @@ abbrev back : LinkSpec → Wire
 back l = record { from = l.b; from_nic = l.b_nic; to = l.a; to_nic = l.a_nic; delay = l.delay }
 
 -- the wires of one link more
-pub wires_more : (ls : List LinkSpec) (i : ℕ) (l : LinkSpec) (before between after : List Wire) → l ≡ get_or ls i l → i < length ls → before ≡ flat_map wires_of (take i ls)
-    → between ≡ before ++ there l ∷ [] → after ≡ between ++ back l ∷ [] → after ≡ flat_map wires_of (take (i + 1) ls)
-wires_more ls i l before between after is lt made one two =
-    let here : take (i + 1) ls ≡ take i ls ++ l ∷ [] = take_more ls i l lt ∙ ap (λ (z : LinkSpec). take i ls ++ z ∷ []) (sym is) in
+pub wires_more : (ls : List LinkSpec) (i : ℕ) (d : LinkSpec) (before between after : List Wire) → i < length ls → before ≡ flat_map wires_of (take i ls)
+    → between ≡ before ++ there (get_or ls i d) ∷ [] → after ≡ between ++ back (get_or ls i d) ∷ [] → after ≡ flat_map wires_of (take (i + 1) ls)
+wires_more ls i d before between after lt made one two =
+    let l : LinkSpec = get_or ls i d in
     two
     ∙ ap (λ (ws : List Wire). ws ++ back l ∷ []) one
     ∙ append_assoc before (there l ∷ []) (back l ∷ [])
     ∙ ap (λ (ws : List Wire). ws ++ wires_of l) made
     ∙ flat_map_more wires_of [] (take i ls) l
-    ∙ ap (flat_map wires_of) (sym here)
+    ∙ ap (flat_map wires_of) (sym (take_more ls i d lt))
 
 -- whether a wire begins at a nic, and whether it ends there
 abbrev begins_at : ℕ → ℕ → Wire → Bool
@@ -78,9 +77,9 @@ counted true e = refl
 counted false e = absurd (cc)
 
 one_counts : {A : Type 0} (p : A → Bool) (xs : List A) (i : ℕ) (d : A) → i < length xs → p (get_or xs i d) ≡ true → 1 ≤ count_by p xs
-one_counts p xs i d lt yes =
+one_counts p xs i d lt holds =
     let le = get_or-le-sum_by (λ y. cond {A = ℕ} (p y) 1 0) xs i d lt in
-    omega (arith, le, counted (p (get_or xs i d)) yes)
+    omega (arith, le, counted (p (get_or xs i d)) holds)
 
 two_count : {A : Type 0} (p : A → Bool) (xs : List A) (i j : ℕ) (d : A) → i < j → j < length xs → p (get_or xs i d) ≡ true → p (get_or xs j d) ≡ true → 2 ≤ count_by p xs
 two_count p [] i j d less lt one two = absurd (omega (arith, lt))
@@ -121,8 +120,8 @@ joins {M} state ms gs (l ∷ ls) all many nics =
     (record {
       from_in = omega (arith, is.a, many);
       to_in = omega (arith, is.b, many);
-      from_nic_in = λ (m : M) at. omega (arith, is.a_nic, nics l.a m at);
-      to_nic_in = λ (m : M) at. omega (arith, is.b_nic, nics l.b m at);
+      from_nic_in = λ m at. omega (arith, is.a_nic, nics l.a m at);
+      to_nic_in = λ m at. omega (arith, is.b_nic, nics l.b m at);
       later = is.delay_low;
       near = is.delay_high;
     })
@@ -130,8 +129,8 @@ joins {M} state ms gs (l ∷ ls) all many nics =
     (record {
       from_in = omega (arith, is.b, many);
       to_in = omega (arith, is.a, many);
-      from_nic_in = λ (m : M) at. omega (arith, is.b_nic, nics l.b m at);
-      to_nic_in = λ (m : M) at. omega (arith, is.a_nic, nics l.a m at);
+      from_nic_in = λ m at. omega (arith, is.b_nic, nics l.b m at);
+      to_nic_in = λ m at. omega (arith, is.a_nic, nics l.a m at);
       later = is.delay_low;
       near = is.delay_high;
     })
@@ -154,7 +153,7 @@ links_in_limits gs ls all = λ k d lt.
 pipe_in_limits : (ls : List LinkSpec) (g nic : ℕ) → All (λ l. InLimits (pipe_params l)) ls → IfSome (pipe_of ls g nic) InLimits
 pipe_in_limits [] g nic all = tt
 pipe_in_limits (l ∷ ls) g nic all =
-    pick (λ o. IfSome (option_map pipe_params o) InLimits) (has_end g nic l) (Some l) (find (has_end g nic) ls)
+    pick (λ (o : Option LinkSpec). IfSome (option_map pipe_params o) InLimits) (has_end g nic l) (Some l) (find (has_end g nic) ls)
     (λ yes. All-head (λ x. InLimits (pipe_params x)) l ls all)
     (λ no. pipe_in_limits ls g nic (All-tail (λ x. InLimits (pipe_params x)) l ls all))
 

@@ -1,6 +1,6 @@
 -- The disks and nics of the file are enough for what the guests take.
-use Rattle.std.proofs.Common.{◌≡◌, ℕ, List, All, length, map, sym, ap, ◌∙◌, subst, arith}
-use Rattle.dev_face.specs.States.{DevState, opening as opened}
+use Rattle.std.proofs.Common.{◌≡◌, ℕ, List, All, length, map, sym, ap, ◌∙◌, subst, refl, arith}
+use Rattle.dev_face.specs.States.{opening as opened}
 use Rattle.dev_face.specs.declared.config.DevConfig.{DevConfig}
 use Rattle.exp_file.specs.Links.{nics_of}
 use Rattle.exp_file.specs.declared.guest_spec.GuestSpec.{GuestSpec}
@@ -8,7 +8,7 @@ use Rattle.exp_file.specs.declared.link_spec.LinkSpec.{LinkSpec}
 use Rattle.link_pipe.specs.Piped.{InLimits}
 use Rattle.bench_build.specs.Openings.{openings}
 use Rattle.bench_build.specs.Setups.{disks_and_nics, pipe_params, pipes_at, pipes_of}
-use Rattle.bench_build.specs.Takings.{AreDisks, MayBuild, with_base, disks_at, others_at, guests_take}
+use Rattle.bench_build.specs.Takings.{AreDisks, MayBuild, with_base, others_at, guests_take}
 use Rattle.bench_build.proofs.GuestDisks.{are_disks, lists_are}
 use Rattle.bench_build.proofs.GuestNics.{others_are}
 use Rattle.bench_build.proofs.GuestsTake.{takes_within}
@@ -37,8 +37,8 @@ machines_for-requires-clause-disks g c = λ n lt.
     let guests = c.as_slice-guests.result.now in
     let same : guests ≡ e.guests.items = c.as_slice-guests.ensures in
     let contents = c.args.contents.items in
-    let each = lists_are c.deref.result.now c.in_ok-disks.disks.items c.as_slice.result.now e.disks.items contents c.len.result (length guests)
-    c.deref.ensures.value c.as_slice.ensures (omega (arith, c.len.ensures)) c.in_ok-disks.ensures.disks in
+    let each = lists_are c.deref.result.now c.in_ok-disks.disks.items c.as_slice.result.now e.disks.items contents (length guests) (length guests)
+    c.deref.ensures.value c.as_slice.ensures refl c.in_ok-disks.ensures.disks in
     subst AreDisks (sym (each n lt))
     (are_disks (length e.guests.items) n e.disks.items contents c.requires.well_formed.disks c.requires.filled (c.requires.well_formed.two_disks n))
 
@@ -48,8 +48,8 @@ machines_for-requires-clause-enough g c = λ k.
     let guests = c.as_slice-guests.result.now in
     let same : guests ≡ e.guests.items = c.as_slice-guests.ensures in
     let contents = c.args.contents.items in
-    let each = lists_are c.deref.result.now c.in_ok-disks.disks.items c.as_slice.result.now e.disks.items contents c.len.result (length guests)
-    c.deref.ensures.value c.as_slice.ensures (omega (arith, c.len.ensures)) c.in_ok-disks.ensures.disks in
+    let each = lists_are c.deref.result.now c.in_ok-disks.disks.items c.as_slice.result.now e.disks.items contents (length guests) (length guests)
+    c.deref.ensures.value c.as_slice.ensures refl c.in_ok-disks.ensures.disks in
     let count : length guests ≡ length e.guests.items = ap length same in
     let within = takes_within e contents (others_at guests c.deref.result.now)
     (λ n lt. others_are e guests c.deref.result.now contents n same (sym c.requires.disks) (each n (omega (arith, lt, count)))) k in
@@ -62,8 +62,8 @@ returns-clause-states g c =
     let same : guests ≡ e.guests.items = c.as_slice-guests.ensures in
     let contents = c.args.contents.items in
     let loaded = c.args.loaded.items in
-    let each = lists_are c.deref.result.now c.in_ok-disks.disks.items c.as_slice.result.now e.disks.items contents c.len.result (length guests)
-    c.deref.ensures.value c.as_slice.ensures (omega (arith, c.len.ensures)) c.in_ok-disks.ensures.disks in
+    let each = lists_are c.deref.result.now c.in_ok-disks.disks.items c.as_slice.result.now e.disks.items contents (length guests) (length guests)
+    c.deref.ensures.value c.as_slice.ensures refl c.in_ok-disks.ensures.disks in
     let count : length guests ≡ length e.guests.items = ap length same in
     let links = c.as_slice-2.result.now in
     let devices = λ (n : ℕ). map opened (with_base (others_at guests c.deref.result.now n)) in

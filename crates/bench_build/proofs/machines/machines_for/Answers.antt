@@ -1,5 +1,5 @@
 -- One machine more is that of the next guest.
-use Rattle.std.proofs.Common.{◌≡◌, ◌<◌, ℕ, List, [], ◌∷◌, ◌++◌, length, map, ap, sym, subst, arith}
+use Rattle.std.proofs.Common.{◌≡◌, ◌<◌, List, [], ◌∷◌, ◌++◌, length, map, ap, subst, arith}
 use Rattle.std.proofs.lemmas.Iterator.Adapters.{YieldsList-from_vec}
 use Rattle.std.proofs.lemmas.Iterator.Consumers.{YieldsList-turn}
 use Rattle.std.proofs.lemmas.List.{length_push}
@@ -7,7 +7,6 @@ use Rattle.std.proofs.lemmas.List.Elements.{All-push, All-same}
 use Rattle.dev_face.specs.States.{opening as opened}
 use Rattle.dev_face.specs.declared.config.DevConfig.{DevConfig}
 use Rattle.exp_file.specs.Links.{nics_of}
-use Rattle.exp_file.specs.declared.guest_spec.GuestSpec.{GuestSpec}
 use Rattle.lookahead_core.specs.Motion.{Idle}
 use Rattle.guest_machine.specs.MachineView.{machine_state, machine_clock}
 use Rattle.bench_build.specs.Setups.{pipes_at}
@@ -19,8 +18,8 @@ use Rattle.bench_build.proofs.KindLists.{enough_left, left_after}
 use Rattle.bench_build.proofs.Standing.{all_get, count_push, read_at, states_push}
 use Rattle.bench_build.proofs.machines.machines_for.Goals as goal
 
-pub overflow_cast : goal.overflow_cast
-overflow_cast g c =
+pub overflow_cast-index : goal.overflow_cast-index
+overflow_cast-index g c =
     let l = c.loop-image in
     let t = YieldsList-turn (YieldsList-from_vec {s = c.into_iter-image-iterator.result} c.args.loaded.items (cc) (cc)) l.yielded l.image-iterator l.yielded_by c.next.result c.next.new.self c.in-Some.image c.in-Some.is c.next.ensures.steps in
     let here : c.len-index.result ≡ length l.yielded = omega (arith, c.len-index.ensures, l.invariant.count) in
@@ -41,9 +40,9 @@ machine_for-requires-clause-spec g c =
     let t = YieldsList-turn (YieldsList-from_vec {s = c.into_iter-image-iterator.result} c.args.loaded.items (cc) (cc)) l.yielded l.image-iterator l.yielded_by c.next.result c.next.new.self c.in-Some.image c.in-Some.is c.next.ensures.steps in
     let here : c.len-index.result ≡ length l.yielded = omega (arith, c.len-index.ensures, l.invariant.count) in
     let within : length l.yielded < length c.args.guests.now = omega (arith, t.0, c.requires.all) in
-    let spec = c.index-guests-spec.result in
+    let spec = c.index-guests-index.result in
     all_get MayBuild c.args.guests.now (length l.yielded) spec c.requires.guests
-    (read_at c.args.guests.now c.len-index.result (length l.yielded) spec here (omega (arith, here, within)) c.index-guests-spec.is)
+    (read_at c.args.guests.now c.len-index.result (length l.yielded) spec here (omega (arith, here, within)) c.index-guests-index.is)
 
 pub machine_for-requires-clause-disks : goal.machine_for-requires-clause-disks
 machine_for-requires-clause-disks g c =
@@ -51,7 +50,7 @@ machine_for-requires-clause-disks g c =
     let t = YieldsList-turn (YieldsList-from_vec {s = c.into_iter-image-iterator.result} c.args.loaded.items (cc) (cc)) l.yielded l.image-iterator l.yielded_by c.next.result c.next.new.self c.in-Some.image c.in-Some.is c.next.ensures.steps in
     let here : c.len-index.result ≡ length l.yielded = omega (arith, c.len-index.ensures, l.invariant.count) in
     let within : length l.yielded < length c.args.guests.now = omega (arith, t.0, c.requires.all) in
-    let same = disks_turn c.args.disks.now c.index-disks-own.result c.len-index.result (length l.yielded) c.deref.result.now c.index-disks-own.is here
+    let same = disks_turn c.args.disks.now c.index-disks-index.result c.len-index.result (length l.yielded) c.deref.result.now c.index-disks-index.is here
     (omega (arith, here, within, c.requires.lists)) c.deref.ensures.value in
     subst AreDisks same (c.requires.disks (length l.yielded) within)
 
@@ -61,10 +60,10 @@ machine_for-requires-clause-enough g c = λ k.
     let t = YieldsList-turn (YieldsList-from_vec {s = c.into_iter-image-iterator.result} c.args.loaded.items (cc) (cc)) l.yielded l.image-iterator l.yielded_by c.next.result c.next.new.self c.in-Some.image c.in-Some.is c.next.ensures.steps in
     let here : c.len-index.result ≡ length l.yielded = omega (arith, c.len-index.ensures, l.invariant.count) in
     let within : length l.yielded < length c.args.guests.now = omega (arith, t.0, c.requires.all) in
-    let spec = c.index-guests-spec.result in
-    let same = disks_turn c.args.disks.now c.index-disks-own.result c.len-index.result (length l.yielded) c.deref.result.now c.index-disks-own.is here
+    let spec = c.index-guests-index.result in
+    let same = disks_turn c.args.disks.now c.index-disks-index.result c.len-index.result (length l.yielded) c.deref.result.now c.index-disks-index.is here
     (omega (arith, here, within, c.requires.lists)) c.deref.ensures.value in
-    let at = read_at c.args.guests.now c.len-index.result (length l.yielded) spec here (omega (arith, here, within)) c.index-guests-spec.is in
+    let at = read_at c.args.guests.now c.len-index.result (length l.yielded) spec here (omega (arith, here, within)) c.index-guests-index.is in
     let own = others_turn c.args.guests.now c.args.disks.now c.len-index.result (length l.yielded) spec c.deref.result.now here at same in
     enough_left k (others_at c.args.guests.now c.args.disks.now) (length l.yielded) (length c.args.guests.now) (counts (items_of l.stock) k) (counts (items_of c.args.stock.now) k)
     (with_nics c.len-index.result spec.nics c.deref.result.now) own within (c.requires.enough k) (l.invariant.left k)
@@ -79,10 +78,10 @@ loop-image-preserved g c =
     let made = c.in_ok-machine.machine in
     let image = c.in-Some.image in
     let others = others_at guests c.args.disks.now in
-    let spec = c.index-guests-spec.result in
-    let same = disks_turn c.args.disks.now c.index-disks-own.result c.len-index.result (length l.yielded) c.deref.result.now c.index-disks-own.is here
+    let spec = c.index-guests-index.result in
+    let same = disks_turn c.args.disks.now c.index-disks-index.result c.len-index.result (length l.yielded) c.deref.result.now c.index-disks-index.is here
     (omega (arith, here, within, c.requires.lists)) c.deref.ensures.value in
-    let at = read_at c.args.guests.now c.len-index.result (length l.yielded) spec here (omega (arith, here, within)) c.index-guests-spec.is in
+    let at = read_at c.args.guests.now c.len-index.result (length l.yielded) spec here (omega (arith, here, within)) c.index-guests-index.is in
     let own = others_turn c.args.guests.now c.args.disks.now c.len-index.result (length l.yielded) spec c.deref.result.now here at same in
     let configs = with_nics c.len-index.result spec.nics c.deref.result.now in
     record {
