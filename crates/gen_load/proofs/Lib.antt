@@ -1,3 +1,5 @@
-pub mod Rows
+pub mod Below
+pub mod Fitting
 pub mod Rings
+pub mod Rows
 pub mod Sizes

@@ -1,8 +1,8 @@
 -- The experiment of a load is well formed.
-use Rattle.std.proofs.Common.{◌≡◌, ◌∙◌, ℕ, zero, suc, ◌+◌, ◌<◌, ◌≤◌, ◌%◌, ◌==◌, nat_lt, nat_le, Bool, true, false, not, ◌&&◌, List, [], ◌∷◌, ◌++◌, All, map, length, Ok, Some, codes, refl, sym, ap, subst, add-one, arith, inl, inr}
+use Rattle.std.proofs.Common.{◌≡◌, ◌∙◌, ℕ, zero, suc, ◌+◌, ◌<◌, ◌≤◌, ◌%◌, ◌==◌, nat_lt, nat_le, Bool, true, false, not, ◌&&◌, List, [], ◌∷◌, ◌++◌, All, map, length, Ok, Some, codes, refl, sym, ap, subst, add-one, arith}
 use Rattle.std.specs.Fmt.{digits}
 use Rattle.std.specs.List.{list_all, range_with_len}
-use Rattle.std.proofs.lemmas.Bool.{and_parts, not-true, ltb-true, leb-true, cases_eq}
+use Rattle.std.proofs.lemmas.Bool.{and_parts, not-true, ltb-true, leb-true}
 use Rattle.std.proofs.lemmas.List.FromFn.{map-range_with_len_more, length-map-range_with_len, get_or-map-range_with_len}
 use Rattle.std.proofs.lemmas.Option.{slice_get-get_or}
 use Rattle.exp_file.specs.declared.slot_spec.SlotSpec.{SlotSpec}
@@ -16,21 +16,8 @@ use Rattle.exp_file.specs.Rows.{is_name_byte, is_not_zero}
 use Rattle.exp_file.specs.Tables.{is_named}
 use Rattle.exp_file.specs.WellFormed.{IsSlot, IsGuest, IsLink, IsFree, IsWellFormed}
 use Rattle.exp_file.proofs.Kept.{kept_slots, no_guests, kept_guests, kept_links}
+use Rattle.gen_load.proofs.Below.{all_below, at_each}
 use Rattle.gen_load.specs.Loads.{guest_name, ring_guest, ring_link, ring_slot, ring_guests, ring_links, ring}
-
--- a test of each number below a bound
-abbrev all_below : (ℕ → Bool) → ℕ → Bool
-all_below p zero = true
-all_below p (suc n) = p n && all_below p n
-
-at_each : (p : ℕ → Bool) (n i : ℕ) → all_below p n ≡ true → i < n → p i ≡ true
-at_each p zero i h low = absurd (omega (arith, low))
-at_each p (suc n) i h low =
-    let parts = and_parts (p n) (all_below p n) h in
-    elim (cases_eq i n) [
-      | inl same ↦ subst (λ (k : ℕ). p k ≡ true) (sym same) parts.0
-      | inr other ↦ at_each p n i parts.1 (omega (arith, low, other))
-    ]
 
 one_more : {X : Type 0} (f : ℕ → X) (n : ℕ) → map f (range_with_len 0 (suc n)) ≡ map f (range_with_len 0 n) ++ f n ∷ []
 one_more {X} f n = ap (λ k. map f (range_with_len 0 k)) (sym (add-one n)) ∙ map-range_with_len_more f 0 n n (omega arith)
