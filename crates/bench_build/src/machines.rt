@@ -26,7 +26,8 @@ use guest_machine::{GuestPlan, Machine};
 use std::alloc::Global;
 use tb_base::{Bytes, NoMemory};
 
-/// The machine of a guest, by its number, whose image stands in RAM and which has these disks.
+/// The machine of a guest, by its number, whose image stands in RAM and which has these disks. Its nics
+/// stand behind them, with a pipe at each that a link has an end at.
 fn machine_for<D: Device>(
     alloc: Global,
     guest: u32,
@@ -64,7 +65,7 @@ fn machine_for<D: Device>(
     Machine::build(alloc, &plan, loaded.ram, devices)
 }
 
-/// The machines of the guests, whose images stand in RAM, each with its disks.
+/// The machines of the guests, whose images stand in RAM, each with its disks, its nics and their pipes.
 pub(crate) fn machines_for<D: Device>(
     alloc: Global,
     guests: &[GuestSpec],
