@@ -10,6 +10,7 @@ mod drivers;
 mod hart;
 mod machine;
 mod memory_map;
+mod nics;
 mod pages;
 mod queue;
 mod ram;

@@ -5,7 +5,8 @@ ghost use Rattle.dev_face.specs.declared.config.DevConfig.TheVariants as config;
 ghost use Rattle.dev_face.specs.declared.kind.Kind.TheVariants as kind;
 
 use crate::cases::running::{
-    BASE, Seen, first_devices, lines_of, put_program, put_words, ram_with, ready, watch_machine,
+    BASE, BEHIND, STORING, Seen, first_devices, lines_of, put_program, put_words, ram_with, ready,
+    watch_machine,
 };
 use blk_dev::Blk;
 use clint_dev::Clint;
@@ -16,56 +17,8 @@ use guest_ram::Ram;
 use rv_word::Op;
 use std::alloc::Global;
 use std::test::Fail;
-use tb_base::{Bytes, NoMemory};
+use tb_base::{Bytes, ItemList, NoMemory};
 use uart_dev::Uart;
-
-/// Stores the second word of each pair of a table at the address that is its first word, until an address
-/// of 0. Then x8 is the UART's address and x9 that of RAM.
-const STORING: [Op; 10] = [
-    Op::Auipc { rd: 5, imm: 0 },
-    Op::Addi {
-        rd: 5,
-        rs1: 5,
-        imm: 0x80,
-    },
-    Op::Lw {
-        rd: 6,
-        rs1: 5,
-        imm: 0,
-    },
-    Op::Beq {
-        rs1: 6,
-        rs2: 0,
-        imm: 20,
-    },
-    Op::Lw {
-        rd: 7,
-        rs1: 5,
-        imm: 4,
-    },
-    Op::Sw {
-        rs1: 6,
-        rs2: 7,
-        imm: 0,
-    },
-    Op::Addi {
-        rd: 5,
-        rs1: 5,
-        imm: 8,
-    },
-    Op::Jal { rd: 0, imm: -20 },
-    Op::Lui {
-        rd: 8,
-        imm: 0x1000_0000,
-    },
-    Op::Lui {
-        rd: 9,
-        imm: -0x8000_0000,
-    },
-];
-
-/// Where the part behind begins.
-const BEHIND: u32 = BASE + 40;
 
 /// Polls the used index, and sends the two low bytes of the used length, the first byte of the data, and the
 /// byte 512 behind it.
@@ -291,6 +244,7 @@ fn watch_with<D: Device>(alloc: Global, ram: Ram, clint: D, uart: D, blk: D) -> 
         entry: BASE,
         disks: 1,
         nics: 0,
+        pipes: ItemList::new(alloc),
     };
     watch_machine(alloc, &plan, ram, devices, 1, 6)
 }

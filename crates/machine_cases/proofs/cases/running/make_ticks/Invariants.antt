@@ -5,5 +5,6 @@ use Rattle.machine_cases.proofs.cases.running.make_ticks.Given as goal
 abbrev pub invariant-loop-tick : goal.invariant-loop-tick
 invariant-loop-tick g l = record {
   idle : g.N.Node.clock l.node ≡ Idle l.tick;
-  lists : length l.ports ≡ g.N.Node.motion.nics (g.N.Node.state l.node);
+  arrivals : length l.arrivals ≡ g.N.Node.motion.nics (g.N.Node.state l.node);
+  left : length l.left ≡ g.N.Node.motion.nics (g.N.Node.state l.node);
 }
