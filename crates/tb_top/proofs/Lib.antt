@@ -1,3 +1,4 @@
 pub mod Claims
 pub mod Loading
 pub mod Putting
+pub mod Faults
