@@ -1,6 +1,6 @@
 #!/usr/bin/env bash
 # Times 800,000 frames that net_dev sends and receives again, of 64 bytes and of 1514, against a C program that moves the
-# same bytes through rings of the same shape (net.c, gcc -O2), and prints the ratios: 18 and 8 when it was written.
+# same bytes through rings of the same shape (net.c, gcc -O2), and prints the ratios: 2.1 and 1.4 when they were last told.
 here=$(cd "$(dirname "$0")" && pwd)
 . "$here/../compare.sh"
 

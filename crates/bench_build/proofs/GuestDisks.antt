@@ -1,5 +1,5 @@
 -- The disks of guests: one more, their limits, and how many there are.
-use Rattle.std.proofs.Common.{◌≡◌, ◌==◌, ℕ, zero, suc, ◌+◌, ◌<◌, ◌≤◌, Bool, true, false, cond, inl, inr, List, [], ◌∷◌, ◌++◌, map, replicate, set, get_or, length, All, Some, refl, sym, ap, ◌∙◌, subst, arith}
+use Rattle.std.proofs.Common.{◌≡◌, ◌==◌, ℕ, zero, suc, ◌+◌, ◌<◌, ◌≤◌, Bool, true, false, cond, inl, inr, List, [], ◌∷◌, ◌++◌, map, replicate, set, get_or, length, All, Some, refl, sym, ap, ◌∙◌, arith}
 use Rattle.std.specs.Prelude.{slice_get}
 use Rattle.std.proofs.lemmas.Bool.{cases_eq, eq-eqb, ne_eqb}
 use Rattle.std.specs.declared.vec.Vec.{Vec}
@@ -8,19 +8,17 @@ use Rattle.std.proofs.lemmas.List.Elements.{All-nil, All-cons, All-head, All-tai
 use Rattle.std.proofs.lemmas.List.Sums.{sum_by-cons, count_by-le-length}
 use Rattle.dev_face.specs.States.{IsInLimits, config_kind}
 use Rattle.dev_face.specs.declared.config.DevConfig.{DevConfig}
-use Rattle.dev_face.specs.declared.kind.Kind.{Kind}
 use Rattle.dev_face.specs.declared.kind.Kind.TheVariants as kind
 use Rattle.exp_file.specs.Disks.{disks_of}
 use Rattle.exp_file.specs.WellFormed.{IsDisk}
 use Rattle.exp_file.specs.declared.disk_spec.DiskSpec.{DiskSpec}
-use Rattle.exp_file.specs.declared.experiment.Experiment.{Experiment}
 use Rattle.bench_build.specs.Answers.{Fills}
 use Rattle.bench_build.specs.Setups.{disk_config, disk_configs}
-use Rattle.bench_build.specs.Stocks.{rank, needs, items_of}
-use Rattle.bench_build.specs.Takings.{AreDisks, number_for, with_base, disks_at, guests_take}
+use Rattle.bench_build.specs.Stocks.{items_of}
+use Rattle.bench_build.specs.Takings.{AreDisks, disks_at}
 
 -- what is said of a choice
-pick : {A : Type 0} (P : A → Type 0) (t : Bool) (x y : A) → (t ≡ true → P x) → (t ≡ false → P y) → P (cond t x y)
+pub pick : {A : Type 0} (P : A → Type 0) (t : Bool) (x y : A) → (t ≡ true → P x) → (t ≡ false → P y) → P (cond t x y)
 pick P true x y f h = f refl
 pick P false x y f h = h refl
 
@@ -44,7 +42,7 @@ disks_push g n (h ∷ ds) (c ∷ bs) d b e =
     (disks_push g (n + 1) ds bs d b (omega (arith, e))) (disks_push g n ds bs d b (omega (arith, e)))
 
 -- a count by its first item
-count_first : (g : ℕ) (d : DiskSpec) (ds : List DiskSpec) → disks_of g (d ∷ ds) ≡ cond (d.guest == g) 1 0 + disks_of g ds
+pub count_first : (g : ℕ) (d : DiskSpec) (ds : List DiskSpec) → disks_of g (d ∷ ds) ≡ cond (d.guest == g) 1 0 + disks_of g ds
 count_first g d ds = sum_by-cons (λ (x : DiskSpec). cond (x.guest == g) 1 0) d ds
 
 count_yes : (g : ℕ) (d : DiskSpec) (ds : List DiskSpec) → (d.guest == g) ≡ true → disks_of g (d ∷ ds) ≡ 1 + disks_of g ds
@@ -62,8 +60,18 @@ disks_length g n (d ∷ ds) (b ∷ bs) =
     (λ yes. omega (arith, count_yes g d ds yes, disks_length g (n + 1) ds bs))
     (λ no. omega (arith, count_no g d ds no, disks_length g n ds bs))
 
+-- where each disk has a content, it has as many
+pub disks_count : (g n : ℕ) (ds : List DiskSpec) (bs : List (List ℕ)) → length ds ≡ length bs → length (disk_configs g n ds bs) ≡ disks_of g ds
+disks_count g n [] bs e = refl
+disks_count g n (d ∷ ds) [] e = absurd (omega (arith, e))
+disks_count g n (d ∷ ds) (b ∷ bs) e =
+    let long : length ds ≡ length bs = omega (arith, e) in
+    pick (λ cs. length cs ≡ disks_of g (d ∷ ds)) (d.guest == g) (disk_config d b n ∷ disk_configs g (n + 1) ds bs) (disk_configs g n ds bs)
+    (λ yes. omega (arith, count_yes g d ds yes, disks_count g (n + 1) ds bs long))
+    (λ no. omega (arith, count_no g d ds no, disks_count g n ds bs long))
+
 -- all of them are for disks
-blks : (g n : ℕ) (ds : List DiskSpec) (bs : List (List ℕ)) → map config_kind (disk_configs g n ds bs) ≡ replicate (length (disk_configs g n ds bs)) kind.Blk
+pub blks : (g n : ℕ) (ds : List DiskSpec) (bs : List (List ℕ)) → map config_kind (disk_configs g n ds bs) ≡ replicate (length (disk_configs g n ds bs)) kind.Blk
 blks g n [] bs = refl
 blks g n (d ∷ ds) [] = refl
 blks g n (d ∷ ds) (b ∷ bs) =
@@ -97,91 +105,6 @@ are_disks guests g ds bs all fills few = record {
   kinds = blks g 0 ds bs;
   limits = limits guests g 0 ds bs all fills (omega (arith, few));
 }
-
--- disks take devices of their kind alone, one each
-none_for : (k : Kind) → (rank kind.Blk == rank k) ≡ false → (cs : List DevConfig) → map config_kind cs ≡ replicate (length cs) kind.Blk → number_for k cs ≡ 0
-none_for k other [] is = refl
-none_for k other (c ∷ cs) is =
-    let first : config_kind c ≡ kind.Blk = cc in
-    let rest : map config_kind cs ≡ replicate (length cs) kind.Blk = cc in
-    let none : 0 + cond (rank (config_kind c) == rank k) 1 0 ≡ 0 = ap (λ j. 0 + cond (rank j == rank k) 1 0) first ∙ ap (λ t. 0 + cond t 1 0) other in
-    omega (arith, none, none_for k other cs rest)
-
-all_for : (cs : List DevConfig) → map config_kind cs ≡ replicate (length cs) kind.Blk → number_for kind.Blk cs ≡ length cs
-all_for [] is = refl
-all_for (c ∷ cs) is =
-    let first : config_kind c ≡ kind.Blk = cc in
-    let rest : map config_kind cs ≡ replicate (length cs) kind.Blk = cc in
-    let one : 0 + cond (rank (config_kind c) == rank kind.Blk) 1 0 ≡ 1 = ap (λ j. 0 + cond (rank j == rank kind.Blk) 1 0) first in
-    omega (arith, one, all_for cs rest)
-
--- the sum of the first n numbers
-abbrev sum_to : (ℕ → ℕ) → ℕ → ℕ
-sum_to f zero = 0
-sum_to f (suc n) = sum_to f n + f n
-
-sum_le : (k : Kind) (disks : ℕ → List DevConfig) (f : ℕ → ℕ) (n : ℕ) → ((g : ℕ) → g < n → number_for k (with_base (disks g)) ≤ f g) → guests_take k disks n ≤ sum_to f n
-sum_le k disks f zero each = omega arith
-sum_le k disks f (suc n) each =
-    let below = sum_le k disks f n (λ g lt. each g (omega (arith, lt))) in
-    let here = each n (omega arith) in
-    omega (arith, below, here)
-
-sum_zero : (n : ℕ) → sum_to (λ g. 0) n ≡ 0
-sum_zero zero = refl
-sum_zero (suc n) = omega (arith, sum_zero n)
-
-sum_one : (n : ℕ) → sum_to (λ g. 1) n ≡ n
-sum_one zero = refl
-sum_one (suc n) = omega (arith, sum_one n)
-
--- one number stands once among the first n, or not at all
-not_yet : (a n : ℕ) → n ≤ a → sum_to (λ g. cond (a == g) 1 0) n ≡ 0
-not_yet a zero le = refl
-not_yet a (suc n) le =
-    let none : 0 + cond (a == n) 1 0 ≡ 0 = ap (λ t. 0 + cond t 1 0) (ne_eqb a n (λ e. absurd (omega (arith, e, le)))) in
-    omega (arith, none, not_yet a n (omega (arith, le)))
-
-at_most_once : (a n : ℕ) → sum_to (λ g. cond (a == g) 1 0) n ≤ 1
-at_most_once a zero = omega arith
-at_most_once a (suc n) = elim (cases_eq a n) [
-  | inl same ↦
-      let one : 0 + cond (a == n) 1 0 ≡ 1 = ap (λ t. 0 + cond t 1 0) (eq-eqb a n same) in
-      omega (arith, one, not_yet a n (omega (arith, same)))
-  | inr ne ↦
-      let none : 0 + cond (a == n) 1 0 ≡ 0 = ap (λ t. 0 + cond t 1 0) (ne_eqb a n ne) in
-      omega (arith, none, at_most_once a n)
-]
-
-sum_add : (f h : ℕ → ℕ) (e : ℕ → ℕ) (n : ℕ) → ((g : ℕ) → e g ≡ f g + h g) → sum_to e n ≡ sum_to f n + sum_to h n
-sum_add f h e zero each = refl
-sum_add f h e (suc n) each = omega (arith, sum_add f h e n each, each n)
-
--- the guests' disks together are no more than all disks
-total : (ds : List DiskSpec) (n : ℕ) → sum_to (λ g. disks_of g ds) n ≤ length ds
-total [] n = omega (arith, sum_zero n)
-total (d ∷ ds) n =
-    let sums = sum_add (λ g. cond (d.guest == g) 1 0) (λ g. disks_of g ds) (λ g. disks_of g (d ∷ ds)) n (λ g. count_first g d ds) in
-    omega (arith, sums, at_most_once d.guest n, total ds n)
-
--- an experiment needs as many devices of each kind as its guests take
-pub takes_within : (e : Experiment) (bs : List (List ℕ)) (disks : ℕ → List DevConfig) →
-    ((g : ℕ) → g < length e.guests.items → disks g ≡ disk_configs g 0 e.disks.items bs) → (k : Kind) → guests_take k disks (length e.guests.items) ≤ needs e k
-takes_within e bs disks same = elim [
-  | kind.Clint ↦ omega (arith, sum_le kind.Clint disks (λ g. 1) guests (λ g lt. let none = none_for kind.Clint refl (disks g) (all_blk g lt) in omega (arith, none)), sum_one guests)
-  | kind.Uart ↦ omega (arith, sum_le kind.Uart disks (λ g. 1) guests (λ g lt. let none = none_for kind.Uart refl (disks g) (all_blk g lt) in omega (arith, none)), sum_one guests)
-  | kind.Blk ↦ omega (arith, sum_le kind.Blk disks (λ g. disks_of g e.disks.items) guests (λ g lt. blk_take g lt), total e.disks.items guests)
-  | kind.Net ↦ omega (arith, sum_le kind.Net disks (λ g. 0) guests (λ g lt. let none = none_for kind.Net refl (disks g) (all_blk g lt) in omega (arith, none)), sum_zero guests)
-]
-  where
-    guests : ℕ
-    guests = length e.guests.items
-
-    all_blk : (g : ℕ) → g < guests → map config_kind (disks g) ≡ replicate (length (disks g)) kind.Blk
-    all_blk g lt = subst (λ cs. map config_kind cs ≡ replicate (length cs) kind.Blk) (sym (same g lt)) (blks g 0 e.disks.items bs)
-
-    blk_take : (g : ℕ) → g < guests → number_for kind.Blk (with_base (disks g)) ≤ disks_of g e.disks.items
-    blk_take g lt = omega (arith, all_for (disks g) (all_blk g lt), ap length (same g lt), disks_length g 0 e.disks.items bs)
 
 -- lists without a disk, and one list more
 pub none_push : {Z : Type 0} (vs : List (Vec DevConfig Z)) (v : Vec DevConfig Z) → ((g : ℕ) → disks_at vs g ≡ []) → v.items ≡ [] → (g : ℕ) → disks_at (vs ++ v ∷ []) g ≡ []

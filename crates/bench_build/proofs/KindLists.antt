@@ -36,28 +36,28 @@ same_kind : (j k : Kind) → rank j ≡ rank k → j ≡ k
 same_kind j k e = some_is (sym (kind_at j) ∙ ap (slice_get kinds) e ∙ kind_at k)
 
 -- what one guest takes is a part of what a greater number takes
-takes_less : (k : Kind) (disks : ℕ → List DevConfig) (m n : ℕ) → m < n → guests_take k disks m + number_for k (with_base (disks m)) ≤ guests_take k disks n
-takes_less k disks m zero less = absurd (omega (arith, less))
-takes_less k disks m (suc n) less = elim (cases_eq m n) [
-  | inl same ↦ let here = ap (λ j. guests_take k disks (suc j)) same in omega (arith, here)
-  | inr ne ↦ omega (arith, takes_less k disks m n (omega (arith, less, ne)))
+takes_less : (k : Kind) (others : ℕ → List DevConfig) (m n : ℕ) → m < n → guests_take k others m + number_for k (with_base (others m)) ≤ guests_take k others n
+takes_less k others m zero less = absurd (omega (arith, less))
+takes_less k others m (suc n) less = elim (cases_eq m n) [
+  | inl same ↦ let here = ap (λ j. guests_take k others (suc j)) same in omega (arith, here)
+  | inr ne ↦ omega (arith, takes_less k others m n (omega (arith, less, ne)))
 ]
 
-takes_more : (k : Kind) (disks : ℕ → List DevConfig) (n : ℕ) → guests_take k disks (n + 1) ≡ guests_take k disks n + number_for k (with_base (disks n))
-takes_more k disks n = let next : n + 1 ≡ suc n = omega arith in ap (guests_take k disks) next
+takes_more : (k : Kind) (others : ℕ → List DevConfig) (n : ℕ) → guests_take k others (n + 1) ≡ guests_take k others n + number_for k (with_base (others n))
+takes_more k others n = let next : n + 1 ≡ suc n = omega arith in ap (guests_take k others) next
 
 -- so what is left of enough devices is enough for the next guest, and what it leaves for those behind it
-pub enough_left : (k : Kind) (disks : ℕ → List DevConfig) (m n left had : ℕ) (own : List DevConfig) → disks m ≡ own → m < n → guests_take k disks n ≤ had
-    → left + guests_take k disks m ≡ had → number_for k (with_base own) ≤ left
-enough_left k disks m n left had own is less enough now =
-    let taken : number_for k (with_base (disks m)) ≡ number_for k (with_base own) = ap (λ (cs : List DevConfig). number_for k (with_base cs)) is in
-    omega (arith, taken, takes_less k disks m n less, enough, now)
+pub enough_left : (k : Kind) (others : ℕ → List DevConfig) (m n left had : ℕ) (own : List DevConfig) → others m ≡ own → m < n → guests_take k others n ≤ had
+    → left + guests_take k others m ≡ had → number_for k (with_base own) ≤ left
+enough_left k others m n left had own is less enough now =
+    let taken : number_for k (with_base (others m)) ≡ number_for k (with_base own) = ap (λ (cs : List DevConfig). number_for k (with_base cs)) is in
+    omega (arith, taken, takes_less k others m n less, enough, now)
 
-pub left_after : (k : Kind) (disks : ℕ → List DevConfig) (m n left after had : ℕ) (own : List DevConfig) → disks m ≡ own → n ≡ m + 1
-    → after + number_for k (with_base own) ≡ left → left + guests_take k disks m ≡ had → after + guests_take k disks n ≡ had
-left_after k disks m n left after had own is next took now =
-    let taken : number_for k (with_base (disks m)) ≡ number_for k (with_base own) = ap (λ (cs : List DevConfig). number_for k (with_base cs)) is in
-    omega (arith, taken, takes_more k disks m, ap (guests_take k disks) next, took, now)
+pub left_after : (k : Kind) (others : ℕ → List DevConfig) (m n left after had : ℕ) (own : List DevConfig) → others m ≡ own → n ≡ m + 1
+    → after + number_for k (with_base own) ≡ left → left + guests_take k others m ≡ had → after + guests_take k others n ≡ had
+left_after k others m n left after had own is next took now =
+    let taken : number_for k (with_base (others m)) ≡ number_for k (with_base own) = ap (λ (cs : List DevConfig). number_for k (with_base cs)) is in
+    omega (arith, taken, takes_more k others m, ap (guests_take k others) next, took, now)
 
 -- a stock that is short is a reason why a bench is not built
 pub unbuilt : (e : Experiment) (had : Kind → ℕ) (f : BuildFault) → IsShort e had f → IsUnbuilt e had f

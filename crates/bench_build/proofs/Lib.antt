@@ -1,6 +1,9 @@
 pub mod Assembling
 pub mod GuestDisks
+pub mod GuestNics
+pub mod GuestsTake
 pub mod KindLists
+pub mod LinkWires
 pub mod Loads
 pub mod Opened
 pub mod Popped

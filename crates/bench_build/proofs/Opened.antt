@@ -1,14 +1,15 @@
 -- Devices that were set up.
-use Rattle.std.proofs.Common.{◌≡◌, ℕ, List, [], ◌∷◌, All, map, replicate, length, refl, sym, ap, ◌∙◌}
-use Rattle.std.proofs.lemmas.List.{append-nil}
+use Rattle.std.proofs.Common.{◌≡◌, ℕ, List, [], ◌∷◌, ◌++◌, All, map, length, refl, sym, ap, ◌∙◌}
+use Rattle.std.proofs.lemmas.List.{map-append}
 use Rattle.std.proofs.lemmas.List.Elements.{All-cons, All-nil}
 use Rattle.dev_face.specs.declared.config.DevConfig.{DevConfig}
 use Rattle.dev_face.specs.declared.config.DevConfig.TheVariants as config
 use Rattle.dev_face.specs.declared.kind.Kind.{Kind}
 use Rattle.dev_face.specs.declared.kind.Kind.TheVariants as kind
-use Rattle.dev_face.specs.States.{IsComing, opening, kind_of, config_kind}
+use Rattle.dev_face.specs.States.{DevState, IsComing, opening, kind_of, config_kind}
 use Rattle.guest_machine.specs.Opening.{machine_kinds}
-use Rattle.bench_build.specs.Takings.{AreDisks, with_base}
+use Rattle.bench_build.specs.Takings.{AreDisks, with_base, with_nics}
+use Rattle.bench_build.proofs.GuestNics.{kinds_behind}
 
 -- a device is of the kind that its configuration is for
 kind_opened : (c : DevConfig) → kind_of (opening c) ≡ config_kind c
@@ -32,8 +33,15 @@ pub all_coming : (n : ℕ) (cs : List DevConfig) → All (IsComing 0 n) (map ope
 all_coming n [] = All-nil (IsComing 0 n)
 all_coming n (c ∷ cs) = All-cons (IsComing 0 n) (opening c) (map opening cs) (coming_opened n c) (all_coming n cs)
 
--- the devices of a guest are those of a machine with its disks
-pub machine_has : (disks : List DevConfig) → AreDisks disks → map kind_of (map opening (with_base disks)) ≡ machine_kinds (length disks) 0
-machine_has disks are =
-    kinds_opened (with_base disks)
-    ∙ ap (λ ks. kind.Clint ∷ kind.Uart ∷ ks) (are.kinds ∙ sym (append-nil (replicate (length disks) kind.Blk)))
+-- the devices of a guest are those of a machine with its disks and nics
+pub machine_has : (g nics : ℕ) (disks : List DevConfig) → AreDisks disks → map kind_of (map opening (with_base (with_nics g nics disks))) ≡ machine_kinds (length disks) nics
+machine_has g nics disks are =
+    kinds_opened (with_base (with_nics g nics disks)) ∙ ap (λ ks. kind.Clint ∷ kind.Uart ∷ ks) (kinds_behind g nics disks are)
+
+-- a Clint and a Uart, then disks and then nics, that were put behind one another
+pub opened_behind : (one two three : List DevState) (disks nics : List DevConfig) → one ≡ map opening (config.Clint ∷ config.Uart ∷ []) → two ≡ one ++ map opening disks
+    → three ≡ two ++ map opening nics → three ≡ map opening (with_base (disks ++ nics))
+opened_behind one two three disks nics first second third =
+    third
+    ∙ ap (λ (zs : List DevState). zs ++ map opening nics) (second ∙ ap (λ (zs : List DevState). zs ++ map opening disks) first)
+    ∙ ap (λ (zs : List DevState). opening config.Clint ∷ opening config.Uart ∷ zs) (sym (map-append opening disks nics))

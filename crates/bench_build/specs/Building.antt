@@ -29,11 +29,10 @@ AreLoaded gs (b ∷ images) [] = ⊥
 AreLoaded [] (b ∷ images) (l ∷ ls) = ⊥
 AreLoaded (g ∷ gs) (b ∷ images) (l ∷ ls) = (image g.format g.ram b ≡ Ok l) × AreLoaded gs images ls
 
--- the builder is of this experiment, which has no links, and this placement, and has taken these inputs
+-- the builder is of this experiment and this placement, and has taken these inputs
 pub record IsBuilding (e : Experiment) (slots : List ℕ) (i : Inputs) (b : Builder) : Type 0 where
   pub experiment : b.experiment.now ≡ e
   pub placement : b.placement.now.slots.items ≡ slots
   pub loaded : AreLoaded e.guests.items i.images b.loaded.items
   pub count : length b.loaded.items ≡ length i.images
   pub contents : b.contents.items ≡ i.disks
-  pub unlinked : e.links.items ≡ []

@@ -2,7 +2,6 @@
 ghost use Rattle.std.specs.Prelude.{◌≡◌, ℕ, ◌+◌, ◌<◌, ◌≤◌, List, length, slice_get, Some, true, false, OnOk, OnErr, IfOk, IfErr};
 ghost use Rattle.std.specs.Option.{option_copied};
 ghost use Rattle.std.proofs.Props.{props};
-ghost use Rattle.exp_file.specs.Reading.{is_built};
 ghost use Rattle.exp_file.specs.WellFormed.{IsWellFormed};
 ghost use Rattle.exp_file.specs.declared.disk_spec.DiskSpec.{DiskSpec};
 ghost use Rattle.exp_file.specs.declared.experiment.Experiment.{Experiment};
@@ -22,6 +21,7 @@ use crate::images::loaded_for;
 use crate::loaded::Loaded;
 use crate::machines::all_machines;
 use crate::needs::check_stock;
+use crate::wires::wires_for;
 use dev_face::Device;
 use exp_file::Experiment;
 use guest_machine::Machine;
@@ -51,11 +51,9 @@ pub struct Builder<'a> {
 impl<'a> Builder<'a> {
     ghost use Rattle.bench_build.specs.Building.{IsBuilding, images_wanted, images_added, disks_wanted, disks_added};
 
-    /// A builder of an experiment that is placed where it fits, and that asks for nothing that is
-    /// not built. It takes no memory.
+    /// A builder of an experiment that is placed where it fits. It takes no memory.
     pub fn new(alloc: Global, e: &'a Experiment, p: &'a Placement) -> Result<Builder<'a>, NoMemory>
         requires well_formed { IsWellFormed e.now }
-        requires built { is_built e.now ≡ true }
         requires placement { IsPlacement e.now p.now.slots.items }
         requires fits { Fits e.now p.now.slots.items }
         ensures building { IfOk result (λ b. IsBuilding e.now p.now.slots.items no_inputs b) }
@@ -124,8 +122,8 @@ impl<'a> Builder<'a> {
         Ok(())
     }
 
-    /// The bench, once all images and disks were taken. Each guest gets a Clint, a Uart and its disks.
-    /// The bench stands at the opening of the experiment with what was taken, before its first host
+    /// The bench, once all images and disks were taken. Each guest gets a Clint, a Uart, its disks and its
+    /// nics; each link becomes two wires, and a pipe at the nics of both its ends. The bench stands at the opening of the experiment with what was taken, before its first host
     /// tick. It is refused with the first kind of which there are too few devices; `stock` has a list
     /// for each kind, in their order.
     pub fn finish<D: Device>(self, stock: [Vec<D>; 4]) -> Result<Bench<Machine<D>>, BuildFault>
@@ -157,7 +155,11 @@ impl<'a> Builder<'a> {
             Ok(machines) => machines,
             Err(_) => return Err(BuildFault::NoMemory),
         };
-        let core = match Core::build(alloc, machines, &[]) {
+        let wires = match wires_for(alloc, experiment.links.as_slice()) {
+            Ok(wires) => wires,
+            Err(_) => return Err(BuildFault::NoMemory),
+        };
+        let core = match Core::build(alloc, machines, &wires) {
             Ok(core) => core,
             Err(_) => return Err(BuildFault::NoMemory),
         };

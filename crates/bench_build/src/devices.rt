@@ -55,23 +55,27 @@ fn take_each<D: Device>(
     Ok(())
 }
 
-/// The devices of a guest with these disks, each of the list of its kind.
+/// The devices of a guest with these disks and nics, each of the list of its kind.
 pub(crate) fn devices_for<D: Device>(
     alloc: Global,
     disks: &[DevConfig],
+    nics: &[DevConfig],
     stock: &mut [Vec<D>],
 ) -> Result<Vec<D>, NoMemory>
     requires one_each { length stock.old ≡ 4 }
-    requires limits { All IsInLimits disks.now }
+    requires disks { All IsInLimits disks.now }
+    requires nics { All IsInLimits nics.now }
     requires stock { IsStock D.state (items_of stock.old) }
-    requires enough { (k : Kind) → number_for k (with_base disks.now) ≤ counts (items_of stock.old) k }
+    requires enough { (k : Kind) → number_for k (with_base (disks.now ++ nics.now)) ≤ counts (items_of stock.old) k }
     ensures one_each { length stock.new ≡ 4 }
     ensures stock { OnOk result (IsStock D.state (items_of stock.new)) }
-    ensures taken { OnOk result ((k : Kind) → counts (items_of stock.new) k + number_for k (with_base disks.now) ≡ counts (items_of stock.old) k) }
-    ensures opened { IfOk result (λ devices. map D.state devices.items ≡ map opening (with_base disks.now)) }
+    ensures taken { OnOk result ((k : Kind) →
+        counts (items_of stock.new) k + number_for k (with_base (disks.now ++ nics.now)) ≡ counts (items_of stock.old) k) }
+    ensures opened { IfOk result (λ devices. map D.state devices.items ≡ map opening (with_base (disks.now ++ nics.now))) }
 {
     let mut devices = Vec::new(alloc);
     take_each(&[DevConfig::Clint, DevConfig::Uart], stock, &mut devices)?;
     take_each(disks, stock, &mut devices)?;
+    take_each(nics, stock, &mut devices)?;
     Ok(devices)
 }

@@ -12,7 +12,10 @@ mod kinds;
 mod loaded;
 mod machines;
 mod needs;
+mod nics;
+mod pipes;
 mod stock;
+mod wires;
 
 pub use build_fault::BuildFault;
 pub use builder::Builder;

@@ -1,5 +1,5 @@
 -- Boxes of each kind are a stock.
-use Rattle.std.proofs.Common.{◌≡◌, List, [], ◌∷◌, All, map}
+use Rattle.std.proofs.Common.{◌≡◌, [], ◌∷◌, All, map}
 use Rattle.std.specs.declared.vec.Vec.{Vec}
 use Rattle.dev_face.specs.States.{DevState, Blank}
 use Rattle.dev_face.specs.declared.kind.Kind.TheVariants as kind

@@ -1,4 +1,4 @@
-//! Benches of two guests with three disks.
+//! Benches of a guest or two, with disks, nics and links.
 ghost use Rattle.std.specs.Prelude.{◌≡◌, ◌+◌, ◌≤◌, All, map, length, OnOk, IfOk};
 ghost use Rattle.bench_build.specs.Building.{images_added, images_wanted, disks_added, disks_wanted};
 ghost use Rattle.bench_build.specs.Stocks.{IsStock, items_of};
@@ -10,13 +10,14 @@ use clint_dev::Clint;
 use dev_face::{Device, Kind};
 use exp_file::read_experiment;
 use host_plan::{check, place};
+use net_dev::Nic;
 use std::alloc::Global;
 use std::test::Fail;
 use tb_base::NoMemory;
 use uart_dev::Uart;
 
 /// The first guest has the first and the third disk, and the second one has the second disk.
-const EXPERIMENT: &str = "version = 1\n\
+const DISKS: &str = "version = 1\n\
 factor = 1\n\
 slot = [{ capacity = 8 }]\n\
 guest = [\n\
@@ -27,53 +28,85 @@ disk = [\n\
 { guest = 'b', sectors = 1, image = 'd', base = 1, per_sector = 4 },\n\
 { guest = 'a', sectors = 8, base = 9, seek_num = 1, seek_den = 2 }]\n";
 
+/// The first nic of each of two guests is linked to that of the other.
+const LINKED: &str = "version = 1\n\
+factor = 1\n\
+slot = [{ capacity = 8 }]\n\
+guest = [\n\
+{ name = 'a', image = 'a', format = 'flat', ram = 4096, rate = 3, nics = 1 },\n\
+{ name = 'b', image = 'a', format = 'flat', ram = 4096, rate = 2, nics = 1 }]\n\
+link = [{ a = 'a', b = 'b', bandwidth = 64, delay = 3, queue = 2 }]\n";
+
+/// A guest is linked to itself, from its first nic to its second one.
+const TO_ITSELF: &str = "version = 1\n\
+factor = 2\n\
+slot = [{ capacity = 1 }]\n\
+guest = [{ name = 'a', image = 'a', format = 'flat', ram = 4096, rate = 2, nics = 2 }]\n\
+link = [{ a = 'a', b = 'a', b_nic = 1, bandwidth = 100, delay = 1, queue = 1 }]\n";
+
+/// The nics of a guest are on no link.
+const UNLINKED: &str = "version = 1\n\
+factor = 2\n\
+slot = [{ capacity = 1 }]\n\
+guest = [{ name = 'a', image = 'a', format = 'flat', ram = 4096, rate = 2, nics = 2 }]\n";
+
 /// What there is to build of, and why no bench is built of it.
 #[derive(Drop)]
 struct Case {
+    experiment: &'static str,
     /// How long the images are, and what the disks hold that hold something.
     image: usize,
     content: usize,
     clints: usize,
     uarts: usize,
     blks: usize,
+    nets: usize,
     fault: Option<BuildFault>,
 }
 
 /// An image fills its RAM with 4096 bytes, and the second disk is full with 512.
-const CASES: [Case; 7] = [
+const CASES: [Case; 11] = [
     Case {
+        experiment: DISKS,
         image: 4096,
         content: 512,
         clints: 2,
         uarts: 2,
         blks: 3,
+        nets: 0,
         fault: None,
     },
     Case {
+        experiment: DISKS,
         image: 0,
         content: 0,
         clints: 3,
         uarts: 4,
         blks: 5,
+        nets: 0,
         fault: None,
     },
     Case {
+        experiment: DISKS,
         image: 4097,
         content: 512,
         clints: 2,
         uarts: 2,
         blks: 3,
+        nets: 0,
         fault: Some(BuildFault::Image {
             guest: 0,
             fault: ImageFault::TooLong,
         }),
     },
     Case {
+        experiment: DISKS,
         image: 4,
         content: 1024,
         clints: 2,
         uarts: 2,
         blks: 3,
+        nets: 0,
         fault: Some(BuildFault::DiskSize {
             disk: 1,
             len: 1024,
@@ -81,11 +114,13 @@ const CASES: [Case; 7] = [
         }),
     },
     Case {
+        experiment: DISKS,
         image: 4,
         content: 3,
         clints: 1,
         uarts: 1,
         blks: 2,
+        nets: 0,
         fault: Some(BuildFault::NoDevice {
             kind: Kind::Clint,
             wanted: 2,
@@ -93,11 +128,13 @@ const CASES: [Case; 7] = [
         }),
     },
     Case {
+        experiment: DISKS,
         image: 4,
         content: 3,
         clints: 2,
         uarts: 1,
         blks: 2,
+        nets: 0,
         fault: Some(BuildFault::NoDevice {
             kind: Kind::Uart,
             wanted: 2,
@@ -105,15 +142,61 @@ const CASES: [Case; 7] = [
         }),
     },
     Case {
+        experiment: DISKS,
         image: 4,
         content: 3,
         clints: 2,
         uarts: 2,
         blks: 2,
+        nets: 0,
         fault: Some(BuildFault::NoDevice {
             kind: Kind::Blk,
             wanted: 3,
             had: 2,
+        }),
+    },
+    Case {
+        experiment: LINKED,
+        image: 4,
+        content: 0,
+        clints: 2,
+        uarts: 2,
+        blks: 0,
+        nets: 2,
+        fault: None,
+    },
+    Case {
+        experiment: TO_ITSELF,
+        image: 4,
+        content: 0,
+        clints: 1,
+        uarts: 1,
+        blks: 0,
+        nets: 2,
+        fault: None,
+    },
+    Case {
+        experiment: UNLINKED,
+        image: 4,
+        content: 0,
+        clints: 1,
+        uarts: 1,
+        blks: 0,
+        nets: 3,
+        fault: None,
+    },
+    Case {
+        experiment: UNLINKED,
+        image: 4,
+        content: 0,
+        clints: 1,
+        uarts: 1,
+        blks: 0,
+        nets: 1,
+        fault: Some(BuildFault::NoDevice {
+            kind: Kind::Net,
+            wanted: 2,
+            had: 1,
         }),
     },
 ];
@@ -211,12 +294,20 @@ fn fault_of_stock(
         let blk: Box<dyn Device> = blk;
         add(&mut blks, blk, Kind::Blk)?;
     }
-    Ok(finished(builder, [clints, uarts, blks, Vec::new(alloc)]))
+    let mut nets: Vec<Box<dyn Device>> = Vec::new(alloc);
+    for _ in 0..case.nets {
+        let Ok(net) = Box::new(alloc, Nic::new(alloc)) else {
+            return Err(NoMemory);
+        };
+        let net: Box<dyn Device> = net;
+        add(&mut nets, net, Kind::Net)?;
+    }
+    Ok(finished(builder, [clints, uarts, blks, nets]))
 }
 
 /// Why no bench is built, if none is.
 fn fault_of(alloc: Global, case: &Case) -> Result<Option<BuildFault>, Fail> {
-    let Ok(e) = read_experiment(alloc, EXPERIMENT.as_bytes()) else {
+    let Ok(e) = read_experiment(alloc, case.experiment.as_bytes()) else {
         return Err(NoMemory.into());
     };
     let placement = place(alloc, &e)?;

@@ -1,4 +1,4 @@
-//! Worked cases of the builder: experiments of a few guests and disks, built of boxes of devices.
+//! Worked cases of the builder: experiments of a few guests, disks and links, built of boxes of devices.
 #![tactic(auto)]
 
 #[cfg(test)]

@@ -1,15 +1,13 @@
 -- The lists of nics in a walk in which the first i devices were asked. The devices from `first` on are the nics.
-use Rattle.std.proofs.Common.{◌≡◌, ℕ, ◌<◌, ◌≤◌, ◌+◌, ◌-◌, ◌++◌, [], ◌∷◌, List, length, map, get_or, set, drop, cond, Bool, true, false, Option, Some, None, ◌⊎◌, inl, inr, refl, sym, ◌∙◌, ap, subst, arith, All, length-set}
+use Rattle.std.proofs.Common.{◌≡◌, ℕ, ◌<◌, ◌≤◌, ◌+◌, ◌-◌, [], List, length, map, get_or, set, drop, cond, Bool, true, false, Option, Some, None, ◌⊎◌, inl, inr, refl, sym, ◌∙◌, ap, subst, arith, All, length-set}
 use Rattle.std.specs.Prelude.{nat_lt, IfSome}
-use Rattle.std.proofs.lemmas.Bool.{true≢false, le-ltb, ltb-true, ltb-false, cases_order}
-use Rattle.std.proofs.lemmas.List.{get_or-set_same, get_or-set_other, get_or-map, get_or-drop, length-map, length-drop, ext_get_or}
+use Rattle.std.proofs.lemmas.Bool.{true≢false, ltb-true, ltb-false, cases_order}
+use Rattle.std.proofs.lemmas.List.{get_or-set_same, get_or-set_other, get_or-map, get_or-drop, length-map, length-drop}
 use Rattle.std.proofs.lemmas.List.Elements.{All-get_or, All-from_get_or}
-use Rattle.lookahead_core.specs.Lists.{list_at, joined}
-use Rattle.lookahead_core.proofs.ListLemmas.{length-joined, list_at-joined}
+use Rattle.lookahead_core.specs.Lists.{list_at}
 use Rattle.dev_face.specs.declared.kind.Kind.{Kind}
-use Rattle.dev_face.specs.States.{DevState, MayArrive, StaysInFront, kind_of, takes_frames}
-use Rattle.dev_list.specs.Walks.{AreNics, StayInFront, nic_of, frames_of, with_frames, arriving}
-use Rattle.dev_face.proofs.Fronts.{front_same}
+use Rattle.dev_face.specs.States.{DevState, MayArrive, kind_of, takes_frames}
+use Rattle.dev_list.specs.Walks.{AreNics, nic_of, frames_of, with_frames, arriving}
 use Rattle.dev_list.proofs.Listed.{state_there}
 
 -- each nic that was asked has the list that `is` says, and each other one the list that it had
@@ -88,31 +86,3 @@ may_arrive f xs ks first i n x lists nic e same nics whole lt at =
 -- all devices were asked, and each list is empty
 pub dealt_empty : (first n : ℕ) (lists0 lists : List (List (List ℕ))) → Dealt first n (λ _. []) lists0 lists → first + length lists0 ≡ n → All (λ l. l ≡ []) lists
 dealt_empty first n lists0 lists d whole = All-from_get_or (λ l. l ≡ []) lists [] (λ i lt. d.asked i (omega (arith, lt, whole, d.count)))
-
--- or has what left its nic at its end
-pub dealt_joined : (first n : ℕ) (lists0 lists frames : List (List (List ℕ))) → Dealt first n (λ i. list_at lists0 i ++ list_at frames (first + i)) lists0 lists → first + length lists0 ≡ n →
-    lists ≡ joined lists0 (drop first frames)
-dealt_joined first n lists0 lists frames d whole =
-    ext_get_or [] lists (joined lists0 (drop first frames)) (d.count ∙ sym (length-joined lists0 (drop first frames))) (λ i lt.
-    let lt0 : i < length lists0 = omega (arith, lt, d.count) in
-    d.asked i (omega (arith, lt0, whole)) ∙ ap (λ (fs : List (List ℕ)). list_at lists0 i ++ fs) (sym (get_or-drop first frames i [])) ∙ sym (list_at-joined lists0 (drop first frames) i lt0))
-
--- a list that grew at its end, if anything
-pub front_set : (lists : List (List (List ℕ))) (nic : ℕ) (fs : List (List ℕ)) → nic < length lists → StaysInFront (list_at lists nic) fs → StayInFront lists (set lists nic fs)
-front_set lists nic fs lt front n = by (cases_order n nic)
-  where
-    other : (n ≡ nic → ⊥) → StaysInFront (list_at lists n) (list_at (set lists nic fs) n)
-    other ne = subst (StaysInFront (list_at lists n)) (sym (get_or-set_other lists nic n fs [] ne)) (front_same (list_at lists n))
-
-    by : (n ≡ nic) ⊎ ((n < nic) ⊎ (nic < n)) → StaysInFront (list_at lists n) (list_at (set lists nic fs) n)
-    by (inl same) = subst (λ k. StaysInFront (list_at lists k) (list_at (set lists nic fs) k)) (sym same) (subst (StaysInFront (list_at lists nic)) (sym (get_or-set_same lists nic fs [] lt)) front)
-    by (inr (inl below)) = other (λ same. omega (arith, below, same))
-    by (inr (inr above)) = other (λ same. omega (arith, above, same))
-
--- what left nic i - first is put to the end of the list that it had
-pub joined_there : (first i : ℕ) (is : ℕ → List (List ℕ)) (lists0 lists frames : List (List (List ℕ))) (nic : Option ℕ) (gave : List (List ℕ)) → nic ≡ nic_of first i → Dealt first i is lists0 lists →
-    list_at frames i ≡ gave → first ≤ i → frames_of lists nic ++ gave ≡ list_at lists0 (i - first) ++ list_at frames (first + (i - first))
-joined_there first i is lists0 lists frames nic gave e d is_gave low =
-    let place : first + (i - first) ≡ i = omega (arith, low) in
-    ap (λ (fs : List (List ℕ)). fs ++ gave) (ap (frames_of lists) (e ∙ ap (λ b. cond b None (Some (i - first))) (le-ltb i first low)) ∙ d.later (i - first) (omega (arith, low)))
-    ∙ ap (λ (fs : List (List ℕ)). list_at lists0 (i - first) ++ fs) (sym (ap (list_at frames) place ∙ is_gave))

@@ -6,11 +6,14 @@ use Rattle.std.proofs.lemmas.Bool.{and_parts}
 use Rattle.std.proofs.lemmas.List.{length-map, take_more, get_or-drop}
 use Rattle.std.proofs.lemmas.List.Folds.{list_all_more, list_all_at}
 use Rattle.std.proofs.lemmas.List.Elements.{All-head, All-tail, All-cons, All-nil}
+use Rattle.trace_rec.specs.declared.rec.Rec.{Rec}
 use Rattle.dev_face.specs.States.{DevState, IsSetUp, IsComing, at_coming, kind_of}
 use Rattle.dev_face.specs.Calls.{Begun, Ended, MaySkip, dev_begin, dev_lines, dev_next, dev_end_idle}
 use Rattle.dev_face.proofs.Skipping.{at_again, at_kind, at_own, skipped_set_up, skipped_coming, skipped_begin, skipped_end, skipped_lines}
 use Rattle.lookahead_core.specs.Lists.{list_at}
-use Rattle.dev_list.specs.Walks.{walk, put_first, begin_one, arriving, frames_of, end_one, join_lines, all_lines, least_of, least_due}
+use Rattle.link_pipe.specs.PipeStates.{PipeState}
+use Rattle.dev_list.specs.Sending.{sending}
+use Rattle.dev_list.specs.Walks.{walk, put_first, begin_one, arriving, frames_of, nic_of, end_one, join_lines, all_lines, least_of, least_due}
 use Rattle.dev_list.proofs.Listed.{state_there}
 
 -- the least due tick of one device more
@@ -117,15 +120,29 @@ begun_all n t size limit ram frames none i (s ∷ ss) all le due =
     (ap (dev_begin (at_coming t s) t ram) (none i) ∙ skipped_begin n t size ram s (All-head (IsComing n size) s ss all) le d.0)
     ∙ ap (put_first (record { device = at_coming (t + 1) s; ram = ram; frames = []; recs = [] })) (begun_all n t size limit ram frames none (i + 1) ss (All-tail (IsComing n size) s ss all) le d.1)
 
+-- where a device has no frames, none is offered
+sends_nothing : (t : ℕ) (pipes : List (Option PipeState)) (nic : Option ℕ) → sending t pipes nic [] ≡ []
+sends_nothing t pipes None = refl
+sends_nothing t pipes (Some nic) = refl
+
+abbrev with_sending : ℕ → List (Option PipeState) → Option ℕ → Ended → Ended
+with_sending t pipes nic x = record { device = x.device; ram = x.ram; frames = x.frames; recs = x.recs ++ sending t pipes nic x.frames }
+
+ended_one : (t u first i : ℕ) (pipes : List (Option PipeState)) (ram : List ℕ) (s : DevState) → dev_end_idle s ≡ true →
+    end_one t first pipes i (at_coming u s) ram ≡ record { device = at_coming u s; ram = ram; frames = []; recs = [] }
+ended_one t u first i pipes ram s idle =
+    ap (with_sending t pipes (nic_of first i)) (skipped_end t u ram s idle)
+    ∙ ap (λ (rs : List Rec). let x : Ended = record { device = at_coming u s; ram = ram; frames = []; recs = rs } in x) (sends_nothing t pipes (nic_of first i))
+
 -- a tick ends in which nothing is served, and changes nothing
-pub ended_all : (t u : ℕ) (ram : List ℕ) (i : ℕ) (ss : List DevState) → list_all dev_end_idle ss ≡ true →
-    walk (end_one t) i (map (at_coming u) ss) ram ≡ record { devices = map (at_coming u) ss; ram = ram; frames = silent ss; recs = [] }
+pub ended_all : (t u first : ℕ) (pipes : List (Option PipeState)) (ram : List ℕ) (i : ℕ) (ss : List DevState) → list_all dev_end_idle ss ≡ true →
+    walk (end_one t first pipes) i (map (at_coming u) ss) ram ≡ record { devices = map (at_coming u) ss; ram = ram; frames = silent ss; recs = [] }
 unfolding walk
-ended_all t u ram i [] idle = refl
-ended_all t u ram i (s ∷ ss) idle =
+ended_all t u first pipes ram i [] idle = refl
+ended_all t u first pipes ram i (s ∷ ss) idle =
     let e : (dev_end_idle s ≡ true) × (list_all dev_end_idle ss ≡ true) = and_parts (dev_end_idle s) (list_all dev_end_idle ss) idle in
-    ap (λ (x : Ended). put_first x (walk (end_one t) (i + 1) (map (at_coming u) ss) x.ram)) (skipped_end t u ram s e.0)
-    ∙ ap (put_first (record { device = at_coming u s; ram = ram; frames = []; recs = [] })) (ended_all t u ram (i + 1) ss e.1)
+    ap (λ (x : Ended). put_first x (walk (end_one t first pipes) (i + 1) (map (at_coming u) ss) x.ram)) (ended_one t u first i pipes ram s e.0)
+    ∙ ap (put_first (record { device = at_coming u s; ram = ram; frames = []; recs = [] })) (ended_all t u first pipes ram (i + 1) ss e.1)
 
 -- nothing arrives at any device where nothing arrives at the nics
 none_listed : (n nic : ℕ) → list_at {A = List ℕ} (replicate n []) nic ≡ []

@@ -1,11 +1,14 @@
 //! Ticks in which no device does anything, passed in one go.
-ghost use Rattle.std.specs.Prelude.{◌≡◌, ◌+◌, ◌≤◌, ◌^◌, All, map};
+ghost use Rattle.std.specs.Prelude.{◌≡◌, ◌+◌, ◌≤◌, ◌^◌, All, map, option_map};
 ghost use Rattle.std.specs.List.{list_all};
 ghost use Rattle.dev_face.specs.States.{IsSetUp, at_coming, kind_of};
 ghost use Rattle.dev_face.specs.Calls.{MaySkip, dev_end_idle};
+ghost use Rattle.link_pipe.specs.PipeStates.{state_of};
+ghost use Rattle.dev_list.specs.Sending.{pipe_states, least_left, least_leaving};
 ghost use Rattle.dev_list.specs.Walks.{least_of, least_due};
 
 use dev_face::Device;
+use link_pipe::Pipe;
 
 /// Whether the end of a tick serves nothing at every device.
 pub fn end_idle_all<D: Device>(devices: &[D]) -> bool
@@ -38,6 +41,27 @@ pub fn least_due<D: Device>(devices: &[D], limit: u64) -> u64
     let mut least = limit;
     for device in devices {
         least = least_of(device.next_due(), least);
+    }
+    least
+}
+
+/// The least tick in which a held frame leaves a pipe, but at most a limit.
+fn least_left(pipe: &Option<Pipe>, limit: u64) -> u64
+    ensures { result ≡ least_left limit (option_map state_of pipe.now) }
+{
+    match pipe {
+        Some(pipe) => least_of(pipe.next_leave(), limit),
+        None => limit,
+    }
+}
+
+/// The least tick in which a held frame leaves one of the pipes, but at most a limit.
+pub fn least_leaving(pipes: &[Option<Pipe>], limit: u64) -> u64
+    ensures { result ≡ least_leaving limit (pipe_states pipes.now) }
+{
+    let mut least = limit;
+    for pipe in pipes {
+        least = least_left(pipe, least);
     }
     least
 }

@@ -8,4 +8,4 @@ abbrev pub boxes : Kind → ℕ
 boxes kind.Clint = 32
 boxes kind.Uart = 32
 boxes kind.Blk = 64
-boxes kind.Net = 0
+boxes kind.Net = 128

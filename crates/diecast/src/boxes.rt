@@ -13,13 +13,17 @@ ghost use Rattle.diecast.specs.Boxes.{boxes};
 use blk_dev::Blk;
 use clint_dev::Clint;
 use dev_face::{Device, Kind};
-use exp_file::{disks_are_few, guests_are_few};
+use exp_file::{disks_are_few, guests_are_few, nics_are_few};
+use net_dev::Nic;
 use std::alloc::Global;
 use tb_base::NoMemory;
 use tb_base::limits::{DISKS, GUESTS};
 use tb_io::{Files, Sink};
 use tb_top::{Status, Stock, diecast};
 use uart_dev::Uart;
+
+/// Most nics of an experiment: four of each guest.
+const NICS: usize = 128;
 
 /// Puts one blank device more to the list of its kind.
 pub(crate) fn add<D: Device>(list: &mut Vec<D>, device: D, kind: Kind) -> Result<(), NoMemory>
@@ -34,8 +38,8 @@ pub(crate) fn add<D: Device>(list: &mut Vec<D>, device: D, kind: Kind) -> Result
     }
 }
 
-/// Runs a command with boxes of each kind for as many guests and disks as an experiment may have. It
-/// gives no status where there is no memory for the boxes.
+/// Runs a command with boxes of each kind for as many guests, disks and nics as an experiment may have.
+/// It gives no status where there is no memory for the boxes.
 pub(crate) fn run_with<F: Files, O: Sink, M: Sink>(
     alloc: Global,
     words: &[String],
@@ -58,6 +62,7 @@ pub(crate) fn run_with<F: Files, O: Sink, M: Sink>(
     let mut clints: Vec<Box<dyn Device>> = Vec::new(alloc);
     let mut uarts: Vec<Box<dyn Device>> = Vec::new(alloc);
     let mut blks: Vec<Box<dyn Device>> = Vec::new(alloc);
+    let mut nets: Vec<Box<dyn Device>> = Vec::new(alloc);
     for _ in 0..GUESTS {
         let Ok(clint) = Box::new(alloc, Clint::new(alloc)) else {
             return Err(NoMemory);
@@ -77,13 +82,21 @@ pub(crate) fn run_with<F: Files, O: Sink, M: Sink>(
         let blk: Box<dyn Device> = blk;
         add(&mut blks, blk, Kind::Blk)?;
     }
+    for _ in 0..NICS {
+        let Ok(nic) = Box::new(alloc, Nic::new(alloc)) else {
+            return Err(NoMemory);
+        };
+        let nic: Box<dyn Device> = nic;
+        add(&mut nets, nic, Kind::Net)?;
+    }
     let stock = Stock {
         clints,
         uarts,
         blks,
-        nets: Vec::new(alloc),
+        nets,
     };
     guests_are_few();
     disks_are_few();
+    nics_are_few();
     Ok(diecast(alloc, words, files, out, msg, stock))
 }

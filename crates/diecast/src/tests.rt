@@ -41,19 +41,18 @@ fn ends_so(alloc: Global, case: &Case<'_>, room: usize) -> Result<bool, Fail> {
     )
 }
 
-/// Whether the lines of a journal that a case tells of are those that it tells: all of them, its records of the first
-/// four ticks, or its other lines.
+/// Whether the lines of a journal that a case tells of are those that it tells: all of them, its steps of the first four
+/// ticks, its other records, or all but its steps.
 fn is_shown(alloc: Global, journal: &[u8], case: &Case<'_>) -> Result<bool, Fail> {
     if case.shown == "all" {
         return Ok(journal == case.out.as_bytes());
     }
-    let records = case.shown == "records";
     let mut lines = String::new(alloc);
     for line in str::from_utf8(journal)?.lines() {
-        if records && line.starts_with("4 ") {
+        if case.shown == "records" && line.starts_with("4 ") {
             break;
         }
-        if is_record(line) == records {
+        if is_told(case.shown, line) {
             lines.push_str(line)?;
             lines.push('\n')?;
         }
@@ -61,8 +60,19 @@ fn is_shown(alloc: Global, journal: &[u8], case: &Case<'_>) -> Result<bool, Fail
     Ok(lines.as_str() == case.out)
 }
 
-fn is_record(line: &str) -> bool {
-    line.contains(" instr ") || line.contains(" trap ")
+fn is_told(shown: &str, line: &str) -> bool {
+    let step = line.contains(" instr ") || line.contains(" trap ");
+    if shown == "records" {
+        return step;
+    }
+    !step && (shown != "devices" || begins_with_tick(line))
+}
+
+fn begins_with_tick(line: &str) -> bool {
+    match line.as_bytes().first() {
+        Some(byte) => byte.is_ascii_digit(),
+        None => false,
+    }
 }
 
 /// Each command ends so, and does so where its message cannot be put.

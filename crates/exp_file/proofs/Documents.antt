@@ -10,8 +10,8 @@ use Rattle.toml.specs.declared.value.Value.{Value}
 use Rattle.exp_file.specs.declared.exp_why.ExpWhy.{ExpWhy}
 use Rattle.exp_file.specs.declared.exp_why.ExpWhy.TheVariants.{Range, NotToml}
 use Rattle.exp_file.specs.declared.section.Section.TheVariants.{Top}
-use Rattle.exp_file.specs.Rows.{Place, fault_at, items_len, sized, some_of}
-use Rattle.exp_file.specs.Reading.{document, of_document, said}
+use Rattle.exp_file.specs.Rows.{Table, fault_at, items_len, sized, some_of}
+use Rattle.exp_file.specs.Reading.{document, of_document, reading}
 
 some_if : (t : Bool) (o p : Option Members) → t ≡ true → o ≡ p → (if t then o else None) ≡ p
 some_if true o p e h = h
@@ -39,18 +39,18 @@ sized_range vs most long =
     let no : nat_le (length vs) most ≡ false = grind (arith, nat_tests) in
     rw (items_len-view vs, no) refl
 
-pub some_of-some : (p : Place) (key : List ℕ) (none : ExpWhy) (vs : List Value) → (length vs == 0) ≡ false → some_of p key none (items_view vs) ≡ Ok (items_view vs)
-some_of-some p key none [] h = absurd (cc)
-some_of-some p key none (v ∷ vs) h = refl
+pub some_of-some : (t : Table) (key : List ℕ) (none : ExpWhy) (vs : List Value) → (length vs == 0) ≡ false → some_of t key none (items_view vs) ≡ Ok (items_view vs)
+some_of-some t key none [] h = absurd (cc)
+some_of-some t key none (v ∷ vs) h = refl
 
-pub some_of-none : (p : Place) (key : List ℕ) (none : ExpWhy) (vs : List Value) → (length vs == 0) ≡ true → some_of p key none (items_view vs) ≡ Err (fault_at p key none)
-some_of-none p key none [] h = refl
-some_of-none p key none (v ∷ vs) h = absurd (grind (arith, nat_tests))
+pub some_of-none : (t : Table) (key : List ℕ) (none : ExpWhy) (vs : List Value) → (length vs == 0) ≡ true → some_of t key none (items_view vs) ≡ Err (fault_at t key none)
+some_of-none t key none [] h = refl
+some_of-none t key none (v ∷ vs) h = absurd (grind (arith, nat_tests))
 
 pub positive : (n : ℕ) → (n == 0) ≡ false → 0 < n
 positive zero e = absurd (cc)
 positive (suc n) e = omega arith
 
-pub refused : (b : List ℕ) → (IsUtf8 b → parse_document b ≡ None) → said b ≡ Err (record { why = NotToml; section = Top; index = 0; key = [] })
-unfolding said
+pub refused : (b : List ℕ) → (IsUtf8 b → parse_document b ≡ None) → reading b ≡ Err (record { why = NotToml; section = Top; index = 0; key = [] })
+unfolding reading
 refused b h = ap of_document (document_none b h)

@@ -1,17 +1,24 @@
--- An experiment that a file says has 32 guests and 64 disks at most.
-use Rattle.std.proofs.Common.{◌≡◌, ℕ, ◌+◌, ◌≤◌, List, [], ◌∷◌, ◌++◌, length, Option, None, Some, Result, Ok, Err, Bool, true, false, refl, subst, arith, length-append, if◌then◌else◌}
+-- An experiment that a file says has 32 guests, 64 disks and 128 nics at most.
+use Rattle.std.proofs.Common.{◌≡◌, ℕ, ℤ, pos, negsuc, ◌+◌, ◌-◌, ◌≤◌, nat_le, ◌&&◌, List, [], ◌∷◌, ◌++◌, map, length, All, Option, None, Some, Result, Ok, Err, Bool, true, false, refl, subst, arith, length-append, if◌then◌else◌}
 use Rattle.std.specs.Prelude.{codes}
-use Rattle.toml.specs.Data.{Data, Members, Items, no_items, item, get_member, as_array}
+use Rattle.std.specs.List.{sum}
+use Rattle.std.proofs.lemmas.Bool.Decides.{nat_tests}
+use Rattle.std.proofs.lemmas.List.Elements.{All-nil, All-push}
+use Rattle.std.proofs.lemmas.List.Sums.{sum-map, sum_by-le}
+use Rattle.toml.specs.Data.{Data, Members, Items, no_items, item, get_member, as_array, as_integer}
 use Rattle.exp_file.specs.declared.exp_fault.ExpFault.{ExpFault}
 use Rattle.exp_file.specs.declared.exp_why.ExpWhy.{ExpWhy}
-use Rattle.exp_file.specs.declared.exp_why.ExpWhy.TheVariants.{WrongKind, NoSlot, NoGuest}
+use Rattle.exp_file.specs.declared.exp_why.ExpWhy.TheVariants.{WrongKind, Range, NoSlot, NoGuest}
 use Rattle.exp_file.specs.declared.experiment.Experiment.{Experiment}
+use Rattle.exp_file.specs.declared.form.Form.TheVariants.{GuestName, ImageName}
+use Rattle.exp_file.specs.declared.guest_spec.GuestSpec.{GuestSpec}
+use Rattle.exp_file.specs.declared.section.Section.TheVariants.{Guest}
 use Rattle.exp_file.specs.Arrays.{TopItems, arrays_of}
-use Rattle.exp_file.specs.Rows.{◌>>=◌, Place, items_len, known, number, array, some_array, array_in, at_key, sized, some_of}
-use Rattle.exp_file.specs.Tables.{each, slot_step, guest_step}
+use Rattle.exp_file.specs.Rows.{◌>>=◌, Table, items_len, known, number, number_or, number_in, within, with_default, maybe_number, multiple, text, format, array, some_array, array_in, at_key, sized, some_of}
+use Rattle.exp_file.specs.Tables.{each, slot_step, row, guest_of, guest_step, once}
 use Rattle.exp_file.specs.Disks.{disk_step}
 use Rattle.exp_file.specs.Links.{link_step}
-use Rattle.exp_file.specs.Reading.{reading, said, built, is_built, of_document, document, lists_of, top_of}
+use Rattle.exp_file.specs.Reading.{reading, of_document, document, lists_of, top_of}
 
 -- what holds of all that came out right
 Holds : {A : Type 0} → (A → Type 0) → Result A ExpFault → Type 0
@@ -41,6 +48,17 @@ each_length step done (item d ds) xs h =
     let rest = each_length step (done ++ k.0 ∷ []) ds xs k.2 in
     omega (arith, rest, length-append done (k.0 ∷ []))
 
+-- what holds of each step holds of all that is read
+each_all : {A : Type 0} (P : A → Type 0) (step : List A → Data → Result A ExpFault) → ((done : List A) (d : Data) → Holds P (step done d))
+    → (done : List A) (ds : Items) (xs : List A) → All P done → each step done ds ≡ Ok xs → All P xs
+each_all {A} P step good done no_items xs all h =
+    let same : (let r : Result (List A) ExpFault = Ok done in r) ≡ Ok xs = h in
+    let is : done ≡ xs = cc same in
+    subst (All P) is all
+each_all P step good done (item d ds) xs all h =
+    let k = both (step done d) (λ x. each step (done ++ x ∷ []) ds) xs h in
+    each_all P step good (done ++ k.0 ∷ []) ds xs (All-push P done k.0 all (of_read P (step done d) k.0 k.1 (good done d))) k.2
+
 -- an array of so many items at most has no more
 AreFew : ℕ → Items → Type 0
 AreFew most ds = items_len ds ≤ most
@@ -55,84 +73,138 @@ unfolding AreFew
 read_few most None ds h = let same : (let r : Result Items ExpWhy = Ok no_items in r) ≡ Ok ds = h in grind arith
 read_few most (Some d) ds h = sized_few most (as_array d) ds h
 
-at_few : (most : ℕ) (p : Place) (key : List ℕ) (r : Result Items ExpWhy) → ((ds : Items) → r ≡ Ok ds → AreFew most ds) → Holds (AreFew most) (at_key p key r)
+at_few : (most : ℕ) (t : Table) (key : List ℕ) (r : Result Items ExpWhy) → ((ds : Items) → r ≡ Ok ds → AreFew most ds) → Holds (AreFew most) (at_key t key r)
 unfolding Holds
-at_few most p key (Err w) few = tt
-at_few most p key (Ok ds) few = few ds refl
+at_few most t key (Err w) few = tt
+at_few most t key (Ok ds) few = few ds refl
 
-array_few : (p : Place) (key : List ℕ) (most : ℕ) → Holds (AreFew most) (array p key most)
+array_few : (t : Table) (key : List ℕ) (most : ℕ) → Holds (AreFew most) (array t key most)
 unfolding array
-array_few p key most = at_few most p key (array_in most (get_member key p.members)) (read_few most (get_member key p.members))
+array_few t key most = at_few most t key (array_in most (get_member key t.members)) (read_few most (get_member key t.members))
 
-filled_few : (most : ℕ) (p : Place) (key : List ℕ) (why : ExpWhy) (ds : Items) → AreFew most ds → Holds (AreFew most) (some_of p key why ds)
+filled_few : (most : ℕ) (t : Table) (key : List ℕ) (why : ExpWhy) (ds : Items) → AreFew most ds → Holds (AreFew most) (some_of t key why ds)
 unfolding Holds
-filled_few most p key why no_items few = tt
-filled_few most p key why (item d ds) few = few
+filled_few most t key why no_items few = tt
+filled_few most t key why (item d ds) few = few
 
-some_few : (p : Place) (key : List ℕ) (most : ℕ) (why : ExpWhy) → Holds (AreFew most) (some_array p key most why)
+some_few : (t : Table) (key : List ℕ) (most : ℕ) (why : ExpWhy) → Holds (AreFew most) (some_array t key most why)
 unfolding some_array
-some_few p key most why = after (AreFew most) (array p key most) (some_of p key why) (λ ds read. filled_few most p key why ds (of_read (AreFew most) (array p key most) ds read (array_few p key most)))
+some_few t key most why = after (AreFew most) (array t key most) (some_of t key why) (λ ds read. filled_few most t key why ds (of_read (AreFew most) (array t key most) ds read (array_few t key most)))
 
 FewItems : TopItems → Type 0
 FewItems a = AreFew 32 a.guests × AreFew 64 a.disks
 
-few_arrays : (p : Place) → Holds FewItems (arrays_of p)
+few_arrays : (t : Table) → Holds FewItems (arrays_of t)
 unfolding arrays_of Holds FewItems
-few_arrays p =
-    after FewItems (some_array p (codes "slot") 32 NoSlot) _ (λ slots _.
-    after FewItems (some_array p (codes "guest") 32 NoGuest) _ (λ guests read_guests.
-    after FewItems (array p (codes "disk") 64) _ (λ disks read_disks.
-    after FewItems (array p (codes "link") 64) _ (λ links _.
-    (of_read (AreFew 32) _ guests read_guests (some_few p (codes "guest") 32 NoGuest), of_read (AreFew 64) _ disks read_disks (array_few p (codes "disk") 64))))))
+few_arrays t =
+    after FewItems (some_array t (codes "slot") 32 NoSlot) _ (λ slots _.
+    after FewItems (some_array t (codes "guest") 32 NoGuest) _ (λ guests read_guests.
+    after FewItems (array t (codes "disk") 64) _ (λ disks read_disks.
+    after FewItems (array t (codes "link") 64) _ (λ links _.
+    (of_read (AreFew 32) _ guests read_guests (some_few t (codes "guest") 32 NoGuest), of_read (AreFew 64) _ disks read_disks (array_few t (codes "disk") 64))))))
 
-Few : Experiment → Type 0
-Few e = (length e.guests.items ≤ 32) × (length e.disks.items ≤ 64)
+-- a number that is read up to a bound is no more
+AtMost : ℕ → ℕ → Type 0
+AtMost most n = n ≤ most
+
+if_at_most : (most n : ℕ) (t : Table) (key : List ℕ) (b : Bool) → (b ≡ true → n ≤ most) → Holds (AtMost most) (at_key t key (with_default 0 (if b then Ok (Some n) else Err Range)))
+unfolding Holds AtMost
+if_at_most most n t key true h = h refl
+if_at_most most n t key false h = tt
+
+within_at_most : (most : ℕ) (t : Table) (key : List ℕ) (z : Option ℤ) → Holds (AtMost most) (at_key t key (with_default 0 (within 0 most z)))
+unfolding Holds
+within_at_most most t key None = tt
+within_at_most most t key (Some (negsuc n)) = tt
+within_at_most most t key (Some (pos n)) = if_at_most most n t key (nat_le 0 n && nat_le n most) (λ h. grind (arith, nat_tests))
+
+read_at_most : (most : ℕ) (t : Table) (key : List ℕ) (o : Option Data) → Holds (AtMost most) (at_key t key (with_default 0 (number_in 0 most o)))
+unfolding Holds AtMost
+read_at_most most t key None = omega arith
+read_at_most most t key (Some d) = within_at_most most t key (as_integer d)
+
+number_at_most : (most : ℕ) (t : Table) (key : List ℕ) → Holds (AtMost most) (number_or t key 0 most 0)
+unfolding number_or
+number_at_most most t key = read_at_most most t key (get_member key t.members)
+
+-- a guest has four nics at most
+FewNics : GuestSpec → Type 0
+FewNics g = AtMost 4 g.nics
+
+few_guest : (slots : ℕ) (t : Table) → Holds FewNics (guest_of slots t)
+unfolding guest_of Holds FewNics
+few_guest slots t =
+    after FewNics (known t) _ (λ _ _.
+    after FewNics (text t (codes "name") GuestName) _ (λ name _.
+    after FewNics (text t (codes "image") ImageName) _ (λ image _.
+    after FewNics (format t) _ (λ kind _.
+    after FewNics (number_or t (codes "ram") 4096 16777216 1048576) _ (λ ram _.
+    after FewNics (multiple t (codes "ram") ram 4096) _ (λ _ _.
+    after FewNics (number t (codes "rate") 1 100000) _ (λ rate _.
+    after FewNics (number_or t (codes "nics") 0 4 0) _ (λ nics read.
+    after FewNics (maybe_number t (codes "slot") 0 (slots - 1)) _ (λ slot _.
+    of_read (AtMost 4) _ nics read (number_at_most 4 t (codes "nics")))))))))))
+
+once_holds : {A : Type 0} (P : A → Type 0) (b : Bool) (x : A) (f : ExpFault) → P x → Holds P (if b then Err f else Ok x)
+unfolding Holds
+once_holds P true x f h = tt
+once_holds P false x f h = h
+
+few_step : (slots : ℕ) (done : List GuestSpec) (d : Data) → Holds FewNics (guest_step slots done d)
+unfolding guest_step once
+few_step slots done d =
+    after FewNics (row Guest (length done) d) _ (λ t _.
+    after FewNics (guest_of slots t) _ (λ g read.
+    once_holds FewNics _ g _ (of_read FewNics (guest_of slots t) g read (few_guest slots t))))
+
+record Few (e : Experiment) : Type 0 where
+  guests : length e.guests.items ≤ 32
+  disks : length e.disks.items ≤ 64
+  nics : All FewNics e.guests.items
 
 few_read : {A : Type 0} (step : List A → Data → Result A ExpFault) (ds : Items) (xs : List A) (most : ℕ) → each step [] ds ≡ Ok xs → AreFew most ds → length xs ≤ most
 unfolding AreFew
 few_read step ds xs most read few = omega (arith, each_length step [] ds xs read, few)
 
 few_lists : (version factor : ℕ) (a : TopItems) → FewItems a → Holds Few (lists_of version factor a)
-unfolding lists_of Holds Few FewItems
+unfolding lists_of Holds FewItems
 few_lists version factor a few =
     after Few (each slot_step [] a.slots) _ (λ slots _.
     after Few (each (guest_step (length slots)) [] a.guests) _ (λ guests read_guests.
     after Few (each (disk_step guests) [] a.disks) _ (λ disks read_disks.
     after Few (each (link_step guests) [] a.links) _ (λ links _.
-    (few_read (guest_step (length slots)) a.guests guests 32 read_guests few.0, few_read (disk_step guests) a.disks disks 64 read_disks few.1)))))
+    record {
+      guests = few_read (guest_step (length slots)) a.guests guests 32 read_guests few.0;
+      disks = few_read (disk_step guests) a.disks disks 64 read_disks few.1;
+      nics = each_all FewNics (guest_step (length slots)) (few_step (length slots)) [] a.guests guests (All-nil FewNics) read_guests;
+    }))))
 
-few_top : (p : Place) → Holds Few (top_of p)
+few_top : (t : Table) → Holds Few (top_of t)
 unfolding top_of
-few_top p =
-    after Few (known p) _ (λ _ _.
-    after Few (number p (codes "version") 1 1) _ (λ version _.
-    after Few (number p (codes "factor") 1 1000) _ (λ factor _.
-    after Few (arrays_of p) _ (λ a read.
-    few_lists version factor a (of_read FewItems (arrays_of p) a read (few_arrays p))))))
+few_top t =
+    after Few (known t) _ (λ _ _.
+    after Few (number t (codes "version") 1 1) _ (λ version _.
+    after Few (number t (codes "factor") 1 1000) _ (λ factor _.
+    after Few (arrays_of t) _ (λ a read.
+    few_lists version factor a (of_read FewItems (arrays_of t) a read (few_arrays t))))))
 
-if_few : (b : Bool) (e : Experiment) (f : ExpFault) → Few e → Holds Few (if b then Ok e else Err f)
+few_document : (o : Option Members) → Holds Few (of_document o)
 unfolding Holds
-if_few true e f h = h
-if_few false e f h = tt
-
-built_few : (r : Result Experiment ExpFault) → Holds Few r → Holds Few (r >>= built)
-unfolding built Holds
-built_few (Ok e) h = if_few (is_built e) e _ h
-built_few (Err f) h = h
-
-said_few : (o : Option Members) → Holds Few (of_document o)
-unfolding Holds
-said_few None = tt
-said_few (Some ms) = few_top _
+few_document None = tt
+few_document (Some ms) = few_top _
 
 few_of : (b : List ℕ) (e : Experiment) → reading b ≡ Ok e → Few e
-unfolding reading said
-few_of b e read = of_read Few (reading b) e read (built_few (said b) (said_few (document b)))
+unfolding reading
+few_of b e read = of_read Few (reading b) e read (few_document (document b))
 
 pub guests_few : (b : List ℕ) (e : Experiment) → reading b ≡ Ok e → length e.guests.items ≤ 32
-unfolding Few
-guests_few b e read = (few_of b e read).0
+guests_few b e read = (few_of b e read).guests
 
 pub disks_few : (b : List ℕ) (e : Experiment) → reading b ≡ Ok e → length e.disks.items ≤ 64
-unfolding Few
-disks_few b e read = (few_of b e read).1
+disks_few b e read = (few_of b e read).disks
+
+pub nics_few : (b : List ℕ) (e : Experiment) → reading b ≡ Ok e → sum (map (λ g. g.nics) e.guests.items) ≤ 128
+unfolding FewNics AtMost
+nics_few b e read =
+    let few = few_of b e read in
+    omega (arith, few.guests, sum-map (λ (g : GuestSpec). g.nics) e.guests.items, sum_by-le (λ (g : GuestSpec). g.nics) 4 e.guests.items few.nics)

@@ -6,7 +6,7 @@ use Rattle.exp_file.specs.declared.exp_fault.ExpErr.{ExpErr}
 use Rattle.exp_file.specs.declared.exp_fault.ExpFault.{ExpFault}
 use Rattle.exp_file.specs.declared.exp_why.ExpWhy.TheVariants.{NoSlot, NoGuest}
 use Rattle.exp_file.specs.declared.arrays.Arrays.{Arrays}
-use Rattle.exp_file.specs.Rows.{◌>>=◌, Fails, Place, array, some_array}
+use Rattle.exp_file.specs.Rows.{◌>>=◌, Fails, Table, array, some_array}
 
 -- what stands in each array
 pub record TopItems : Type 0 where
@@ -16,12 +16,12 @@ pub record TopItems : Type 0 where
   pub links : Items
 
 -- the arrays of the file's own table: 1 to 32 slots, 1 to 32 guests, at most 64 disks and at most 64 links
-unfoldable pub arrays_of : Place → Result TopItems ExpFault
-arrays_of p = do
-  slots ← some_array p (codes "slot") 32 NoSlot
-  guests ← some_array p (codes "guest") 32 NoGuest
-  disks ← array p (codes "disk") 64
-  links ← array p (codes "link") 64
+unfoldable pub arrays_of : Table → Result TopItems ExpFault
+arrays_of t = do
+  slots ← some_array t (codes "slot") 32 NoSlot
+  guests ← some_array t (codes "guest") 32 NoGuest
+  disks ← array t (codes "disk") 64
+  links ← array t (codes "link") 64
   Ok (record { slots = slots; guests = guests; disks = disks; links = links })
 
 abbrev pub items_of : Arrays → TopItems

@@ -1,8 +1,7 @@
 -- Claims: Reading says what an experiment file says, of the definitions in Rows, Tables, Disks, Links, Arrays, Lists and Unknown; WellFormed
 -- says what every experiment that is read keeps.
--- What proofs keep: Places, RowOf and Kept, and in Lists and Arrays all but `listed`, `Reads` and `arrays_of`.
+-- What proofs keep: RowOf and Kept, and in Lists and Arrays all but `listed`, `Reads` and `arrays_of`.
 pub mod Rows
-pub mod Places
 pub mod RowOf
 pub mod Lists
 pub mod Arrays

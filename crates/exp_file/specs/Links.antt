@@ -8,7 +8,7 @@ use Rattle.exp_file.specs.declared.section.Section.TheVariants.{Link}
 use Rattle.exp_file.specs.declared.guest_spec.GuestSpec.{GuestSpec}
 use Rattle.exp_file.specs.declared.link_spec.LinkSpec.{LinkSpec}
 use Rattle.exp_file.specs.declared.links.LinkFields.{LinkFields}
-use Rattle.exp_file.specs.Rows.{◌>>=◌, Place, fault_at, number, number_or, known}
+use Rattle.exp_file.specs.Rows.{◌>>=◌, Table, fault_at, number, number_or, known}
 use Rattle.exp_file.specs.Tables.{row}
 use Rattle.exp_file.specs.Disks.{guest_at, found}
 
@@ -37,36 +37,36 @@ is_same None g nic = false
 is_same (Some e) g nic = e.0 == g && e.1 == nic
 
 -- a nic that the guest has, and that no link uses
-unfoldable pub free_nic : Place → List ℕ → ℕ → ℕ → Bool → Result ℕ ExpFault
-free_nic p key nics nic taken = if nat_lt nic nics then (if taken then Err (fault_at p key NicTaken) else Ok nic) else Err (fault_at p key NicRange)
+unfoldable pub free_nic : Table → List ℕ → ℕ → ℕ → Bool → Result ℕ ExpFault
+free_nic t key nics nic taken = if nat_lt nic nics then (if taken then Err (fault_at t key NicTaken) else Ok nic) else Err (fault_at t key NicRange)
 
 -- one end of a link: the number of its guest
-unfoldable pub end_of : Place → List GuestSpec → List LinkSpec → Option (ℕ × ℕ) → List ℕ → List ℕ → Option ℕ → ℕ → Result ℕ ExpFault
-end_of p guests done other key nic_key named nic = do
-  g ← found p key named
-  _ ← free_nic p nic_key (nics_of guests g) nic (is_used done g nic || is_same other g nic)
+unfoldable pub end_of : Table → List GuestSpec → List LinkSpec → Option (ℕ × ℕ) → List ℕ → List ℕ → Option ℕ → ℕ → Result ℕ ExpFault
+end_of t guests done other key nic_key named nic = do
+  g ← found t key named
+  _ ← free_nic t nic_key (nics_of guests g) nic (is_used done g nic || is_same other g nic)
   Ok g
 
-unfoldable pub link_fields : List GuestSpec → Place → Result LinkFields ExpFault
-link_fields guests p = do
-  _ ← known p
-  a ← guest_at p guests (codes "a")
-  a_nic ← number_or p (codes "a_nic") 0 3 0
-  b ← guest_at p guests (codes "b")
-  b_nic ← number_or p (codes "b_nic") 0 3 0
-  bandwidth ← number p (codes "bandwidth") 1 1000000
-  delay ← number p (codes "delay") 1 10000
-  queue ← number p (codes "queue") 1 1000
+unfoldable pub link_fields : List GuestSpec → Table → Result LinkFields ExpFault
+link_fields guests t = do
+  _ ← known t
+  a ← guest_at t guests (codes "a")
+  a_nic ← number_or t (codes "a_nic") 0 3 0
+  b ← guest_at t guests (codes "b")
+  b_nic ← number_or t (codes "b_nic") 0 3 0
+  bandwidth ← number t (codes "bandwidth") 1 1000000
+  delay ← number t (codes "delay") 1 10000
+  queue ← number t (codes "queue") 1 1000
   Ok (record { a = a; a_nic = a_nic; b = b; b_nic = b_nic; bandwidth = bandwidth; delay = delay; queue = queue })
 
-unfoldable pub link_ends : List GuestSpec → List LinkSpec → Place → LinkFields → Result LinkSpec ExpFault
-link_ends guests done p f = do
-  a ← end_of p guests done None (codes "a") (codes "a_nic") f.a f.a_nic
-  b ← end_of p guests done (Some (a, f.a_nic)) (codes "b") (codes "b_nic") f.b f.b_nic
+unfoldable pub link_ends : List GuestSpec → List LinkSpec → Table → LinkFields → Result LinkSpec ExpFault
+link_ends guests done t f = do
+  a ← end_of t guests done None (codes "a") (codes "a_nic") f.a f.a_nic
+  b ← end_of t guests done (Some (a, f.a_nic)) (codes "b") (codes "b_nic") f.b f.b_nic
   Ok (record { a = a; a_nic = f.a_nic; b = b; b_nic = f.b_nic; bandwidth = f.bandwidth; delay = f.delay; queue = f.queue })
 
 unfoldable pub link_step : List GuestSpec → List LinkSpec → Data → Result LinkSpec ExpFault
 link_step guests done d = do
-  p ← row Link (length done) d
-  f ← link_fields guests p
-  link_ends guests done p f
+  t ← row Link (length done) d
+  f ← link_fields guests t
+  link_ends guests done t f

@@ -31,18 +31,18 @@ Gives (Ok x) read = read ≡ Ok x
 Gives (Err e) read = Fails e read
 
 -- a table of the file: which it is, and its members
-pub record Place : Type 0 where
+pub record Table : Type 0 where
   pub section : Section
   pub index : ℕ
   pub members : Members
 
-abbrev pub fault_at : Place → List ℕ → ExpWhy → ExpFault
-fault_at p key why = record { why = why; section = p.section; index = p.index; key = take 32 key }
+abbrev pub fault_at : Table → List ℕ → ExpWhy → ExpFault
+fault_at t key why = record { why = why; section = t.section; index = t.index; key = take 32 key }
 
 -- a value of a key, or the fault of that key
-abbrev pub at_key : {A : Type 0} → Place → List ℕ → Result A ExpWhy → Result A ExpFault
-at_key p key (Ok x) = Ok x
-at_key p key (Err why) = Err (fault_at p key why)
+abbrev pub at_key : {A : Type 0} → Table → List ℕ → Result A ExpWhy → Result A ExpFault
+at_key t key (Ok x) = Ok x
+at_key t key (Err why) = Err (fault_at t key why)
 
 abbrev pub needed : {A : Type 0} → Result (Option A) ExpWhy → Result A ExpWhy
 needed (Ok (Some x)) = Ok x
@@ -95,24 +95,24 @@ IsNameForm ImageKind = ⊥
 IsNameForm AnyText = ⊥
 
 -- the fields of a table by their keys
-unfoldable pub number : Place → List ℕ → ℕ → ℕ → Result ℕ ExpFault
-number p key low high = at_key p key (needed (number_in low high (get_member key p.members)))
+unfoldable pub number : Table → List ℕ → ℕ → ℕ → Result ℕ ExpFault
+number t key low high = at_key t key (needed (number_in low high (get_member key t.members)))
 
-unfoldable pub number_or : Place → List ℕ → ℕ → ℕ → ℕ → Result ℕ ExpFault
-number_or p key low high d = at_key p key (with_default d (number_in low high (get_member key p.members)))
+unfoldable pub number_or : Table → List ℕ → ℕ → ℕ → ℕ → Result ℕ ExpFault
+number_or t key low high d = at_key t key (with_default d (number_in low high (get_member key t.members)))
 
-unfoldable pub maybe_number : Place → List ℕ → ℕ → ℕ → Result (Option ℕ) ExpFault
-maybe_number p key low high = at_key p key (number_in low high (get_member key p.members))
+unfoldable pub maybe_number : Table → List ℕ → ℕ → ℕ → Result (Option ℕ) ExpFault
+maybe_number t key low high = at_key t key (number_in low high (get_member key t.members))
 
-unfoldable pub text : Place → List ℕ → Form → Result (List ℕ) ExpFault
-text p key form = at_key p key (needed (text_in (has_form form) (get_member key p.members)))
+unfoldable pub text : Table → List ℕ → Form → Result (List ℕ) ExpFault
+text t key form = at_key t key (needed (text_in (has_form form) (get_member key t.members)))
 
-unfoldable pub maybe_text : Place → List ℕ → Form → Result (Option (List ℕ)) ExpFault
-maybe_text p key form = at_key p key (text_in (has_form form) (get_member key p.members))
+unfoldable pub maybe_text : Table → List ℕ → Form → Result (Option (List ℕ)) ExpFault
+maybe_text t key form = at_key t key (text_in (has_form form) (get_member key t.members))
 
 -- a multiple of a number
-unfoldable pub multiple : Place → List ℕ → ℕ → ℕ → Result (Unit {0}) ExpFault
-multiple p key n of = if n % of == 0 then Ok tt else Err (fault_at p key Range)
+unfoldable pub multiple : Table → List ℕ → ℕ → ℕ → Result (Unit {0}) ExpFault
+multiple t key n of = if n % of == 0 then Ok tt else Err (fault_at t key Range)
 
 -- whether a key is one of these
 abbrev pub is_among : List (List ℕ) → List ℕ → Bool
@@ -123,9 +123,9 @@ abbrev pub first_unknown : List (List ℕ) → Members → Option (List ℕ)
 first_unknown keys no_members = None
 first_unknown keys (member k d ms) = if is_among keys k then first_unknown keys ms else Some k
 
-abbrev pub known_or : Place → Option (List ℕ) → Result (Unit {0}) ExpFault
-known_or p None = Ok tt
-known_or p (Some key) = Err (fault_at p key Unknown)
+abbrev pub known_or : Table → Option (List ℕ) → Result (Unit {0}) ExpFault
+known_or t None = Ok tt
+known_or t (Some key) = Err (fault_at t key Unknown)
 
 -- the keys of each table
 unfoldable pub keys_of : Section → List (List ℕ)
@@ -135,8 +135,8 @@ keys_of Guest = codes "name" ∷ codes "image" ∷ codes "format" ∷ codes "ram
 keys_of Disk = codes "guest" ∷ codes "sectors" ∷ codes "image" ∷ codes "base" ∷ codes "per_sector" ∷ codes "seek_num" ∷ codes "seek_den" ∷ []
 keys_of Link = codes "a" ∷ codes "a_nic" ∷ codes "b" ∷ codes "b_nic" ∷ codes "bandwidth" ∷ codes "delay" ∷ codes "queue" ∷ []
 
-unfoldable pub known : Place → Result (Unit {0}) ExpFault
-known p = known_or p (first_unknown (keys_of p.section) p.members)
+unfoldable pub known : Table → Result (Unit {0}) ExpFault
+known t = known_or t (first_unknown (keys_of t.section) t.members)
 
 -- the text that a table holds, lent
 abbrev pub TextGives : Result (Bor (List ℕ)) ExpErr → Result (List ℕ) ExpFault → Type 0
@@ -156,8 +156,8 @@ abbrev pub formatted : Result (Option (List ℕ)) ExpWhy → Result Format ExpWh
 formatted (Ok o) = Ok (format_named o)
 formatted (Err why) = Err why
 
-unfoldable pub format : Place → Result Format ExpFault
-format p = at_key p (codes "format") (formatted (text_in (has_form ImageKind) (get_member (codes "format") p.members)))
+unfoldable pub format : Table → Result Format ExpFault
+format t = at_key t (codes "format") (formatted (text_in (has_form ImageKind) (get_member (codes "format") t.members)))
 
 -- the tables of a key: none where it is absent, and not too many
 abbrev pub items_len : Items → ℕ
@@ -172,13 +172,13 @@ abbrev pub array_in : ℕ → Option Data → Result Items ExpWhy
 array_in most None = Ok no_items
 array_in most (Some d) = sized most (as_array d)
 
-unfoldable pub array : Place → List ℕ → ℕ → Result Items ExpFault
-array p key most = at_key p key (array_in most (get_member key p.members))
+unfoldable pub array : Table → List ℕ → ℕ → Result Items ExpFault
+array t key most = at_key t key (array_in most (get_member key t.members))
 
 -- the tables of a key that must have one at least
-abbrev pub some_of : Place → List ℕ → ExpWhy → Items → Result Items ExpFault
-some_of p key none no_items = Err (fault_at p key none)
-some_of p key none (item d ds) = Ok (item d ds)
+abbrev pub some_of : Table → List ℕ → ExpWhy → Items → Result Items ExpFault
+some_of t key none no_items = Err (fault_at t key none)
+some_of t key none (item d ds) = Ok (item d ds)
 
-unfoldable pub some_array : Place → List ℕ → ℕ → ExpWhy → Result Items ExpFault
-some_array p key most none = array p key most >>= some_of p key none
+unfoldable pub some_array : Table → List ℕ → ℕ → ExpWhy → Result Items ExpFault
+some_array t key most none = array t key most >>= some_of t key none

@@ -1,7 +1,7 @@
 //! The arrays of a file's tables.
 ghost use Rattle.std.specs.Prelude.{IfOk};
 ghost use Rattle.exp_file.specs.Arrays.{arrays_of, ArraysGive, AreSized};
-ghost use Rattle.exp_file.specs.Places.{place};
+ghost use Rattle.exp_file.specs.RowOf.{table_at};
 
 use crate::exp_fault::ExpErr;
 use crate::exp_why::ExpWhy;
@@ -21,7 +21,7 @@ pub(crate) struct Arrays<'a> {
 /// The arrays of a file's own table.
 #[tactic(auto, unfolding(crate::specs::Arrays::arrays_of))]
 pub(crate) fn read_arrays<'a>(row: &'a Row<'_>) -> Result<Arrays<'a>, ExpErr>
-    ensures given { ArraysGive result (arrays_of (place row.now.section row.now.index row.now.table.now)) }
+    ensures given { ArraysGive result (arrays_of (table_at row.now.section row.now.index row.now.table.now)) }
     ensures sized { IfOk result AreSized }
 {
     let slots = row.some_array("slot", SLOTS, ExpWhy::NoSlot)?;

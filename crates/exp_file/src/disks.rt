@@ -1,7 +1,7 @@
 //! The disks, and the guests that names stand for.
 ghost use Rattle.std.specs.Prelude.{◌≡◌, ◌≤◌, ◌<◌, length, IfOk, IfSome, Some};
 ghost use Rattle.exp_file.specs.Disks.{guest_named, guest_at, found, disks_of, with_room, disk_of};
-ghost use Rattle.exp_file.specs.Places.{place};
+ghost use Rattle.exp_file.specs.RowOf.{table_at};
 ghost use Rattle.exp_file.specs.Rows.{Gives};
 ghost use Rattle.exp_file.specs.WellFormed.{IsDisk};
 
@@ -34,7 +34,7 @@ pub(crate) fn guest_at(
     key: &str,
 ) -> Result<Option<u32>, ExpErr>
     requires { length guests.now ≤ 32 }
-    ensures given { Gives result (guest_at (place row.now.section row.now.index row.now.table.now) guests.now key.now) }
+    ensures given { Gives result (guest_at (table_at row.now.section row.now.index row.now.table.now) guests.now key.now) }
     ensures bound { IfOk result (λ o. IfSome o (λ g. g < length guests.now)) }
 {
     let name = row.text(key, Form::AnyText)?;
@@ -47,7 +47,7 @@ pub(crate) fn guest_at(
 /// Refuses a name that no guest has.
 #[tactic(auto, unfolding(crate::specs::Disks::found))]
 pub(crate) fn found(row: &Row<'_>, key: &str, named: Option<u32>) -> Result<u32, ExpErr>
-    ensures given { Gives result (found (place row.now.section row.now.index row.now.table.now) key.now named) }
+    ensures given { Gives result (found (table_at row.now.section row.now.index row.now.table.now) key.now named) }
     ensures same { IfOk result (λ g. named ≡ Some g) }
 {
     match named {
@@ -64,7 +64,7 @@ fn disks_of(g: u32, disks: &[DiskSpec]) -> usize
 
 #[tactic(auto, unfolding(crate::specs::Disks::with_room))]
 fn with_room(done: &[DiskSpec], row: &Row<'_>, g: u32) -> Result<u32, ExpErr>
-    ensures given { Gives result (with_room done.now (place row.now.section row.now.index row.now.table.now) g) }
+    ensures given { Gives result (with_room done.now (table_at row.now.section row.now.index row.now.table.now) g) }
     ensures same { IfOk result (λ x. x ≡ g) }
     ensures room { IfOk result (λ x. disks_of g done.now < 2) }
 {
@@ -83,7 +83,7 @@ fn disk_of(
     row: &Row<'_>,
 ) -> Result<DiskSpec, ExpErr>
     requires { length guests.now ≤ 32 }
-    ensures given { Gives result (disk_of guests.now done.now (place row.now.section row.now.index row.now.table.now)) }
+    ensures given { Gives result (disk_of guests.now done.now (table_at row.now.section row.now.index row.now.table.now)) }
     ensures well { IfOk result (IsDisk (length guests.now)) }
     ensures room { IfOk result (λ d. disks_of d.guest done.now < 2) }
 {

@@ -25,6 +25,4 @@ pub enum ExpWhy {
     NoGuest,
     /// There is no slot.
     NoSlot,
-    /// The file is right, but asks for what cannot be run yet.
-    NotBuilt,
 }

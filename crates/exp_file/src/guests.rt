@@ -2,7 +2,7 @@
 ghost use Rattle.std.specs.Prelude.{◌≡◌, ◌<◌, IfOk, false};
 ghost use Rattle.exp_file.specs.WellFormed.{IsGuest};
 ghost use Rattle.exp_file.specs.Rows.{Gives};
-ghost use Rattle.exp_file.specs.Places.{place};
+ghost use Rattle.exp_file.specs.RowOf.{table_at};
 ghost use Rattle.exp_file.specs.Tables.{guest_of, is_named, once};
 
 use crate::each::Step;
@@ -20,7 +20,7 @@ use toml::Value;
 #[tactic(auto, unfolding(crate::specs::Tables::guest_of))]
 fn read_guest(alloc: Global, slots: u32, row: &Row<'_>) -> Result<GuestSpec, ExpErr>
     requires { 0 < slots }
-    ensures given { Gives result (guest_of slots (place row.now.section row.now.index row.now.table.now)) }
+    ensures given { Gives result (guest_of slots (table_at row.now.section row.now.index row.now.table.now)) }
     ensures well { IfOk result (IsGuest slots) }
 {
     row.known()?;
@@ -52,7 +52,7 @@ fn is_named(name: &str, guests: &[GuestSpec]) -> bool
 
 #[tactic(auto, unfolding(crate::specs::Tables::once))]
 fn once(done: &[GuestSpec], row: &Row<'_>, guest: GuestSpec) -> Result<GuestSpec, ExpErr>
-    ensures given { Gives result (once done.now (place row.now.section row.now.index row.now.table.now) guest) }
+    ensures given { Gives result (once done.now (table_at row.now.section row.now.index row.now.table.now) guest) }
     ensures same { IfOk result (λ g. g ≡ guest) }
     ensures new { IfOk result (λ g. is_named g.name done.now ≡ false) }
 {

@@ -26,7 +26,7 @@ pub use exp_fault::{ExpErr, ExpFault};
 pub use exp_why::ExpWhy;
 pub use experiment::Experiment;
 pub use guest_spec::{Format, GuestSpec};
-pub use law::{disks_are_few, guests_are_few};
+pub use law::{disks_are_few, guests_are_few, nics_are_few};
 pub use link_spec::LinkSpec;
 pub use read::read_experiment;
 pub use section::Section;

@@ -1,7 +1,7 @@
 //! The links.
 ghost use Rattle.std.specs.Prelude.{◌≡◌, ◌≤◌, ◌<◌, length, Some, IfOk, false};
 ghost use Rattle.exp_file.specs.Links.{nics_of, has_end, is_used, is_same, free_nic, end_of, link_fields, link_ends};
-ghost use Rattle.exp_file.specs.Places.{place};
+ghost use Rattle.exp_file.specs.RowOf.{table_at};
 ghost use Rattle.exp_file.specs.Rows.{Gives};
 ghost use Rattle.exp_file.specs.WellFormed.{IsLink, IsFree, AreFields};
 
@@ -49,7 +49,7 @@ fn nics_of(guests: &[GuestSpec], g: u32) -> u32
 
 #[tactic(auto, unfolding(crate::specs::Links::free_nic))]
 fn free_nic(row: &Row<'_>, key: &str, nics: u32, nic: u32, taken: bool) -> Result<u32, ExpErr>
-    ensures given { Gives result (free_nic (place row.now.section row.now.index row.now.table.now) key.now nics nic taken) }
+    ensures given { Gives result (free_nic (table_at row.now.section row.now.index row.now.table.now) key.now nics nic taken) }
     ensures bound { IfOk result (λ _. nic < nics) }
     ensures free { IfOk result (λ _. taken ≡ false) }
 {
@@ -79,7 +79,7 @@ fn end_of(
     named: Option<u32>,
     nic: u32,
 ) -> Result<u32, ExpErr>
-    ensures given { Gives result (end_of (place row.now.section row.now.index row.now.table.now) around.now.guests.now
+    ensures given { Gives result (end_of (table_at row.now.section row.now.index row.now.table.now) around.now.guests.now
         around.now.done.now around.now.other key.now nic_key.now named nic) }
     ensures same { IfOk result (λ g. named ≡ Some g) }
     ensures nic { IfOk result (λ g. nic < nics_of around.now.guests.now g) }
@@ -107,7 +107,7 @@ pub struct LinkFields {
 #[tactic(auto, unfolding(crate::specs::Links::link_fields))]
 fn link_fields(guests: &[GuestSpec], row: &Row<'_>) -> Result<LinkFields, ExpErr>
     requires { length guests.now ≤ 32 }
-    ensures given { Gives result (link_fields guests.now (place row.now.section row.now.index row.now.table.now)) }
+    ensures given { Gives result (link_fields guests.now (table_at row.now.section row.now.index row.now.table.now)) }
     ensures well { IfOk result (AreFields (length guests.now)) }
 {
     row.known()?;
@@ -137,7 +137,7 @@ fn link_ends(
     f: &LinkFields,
 ) -> Result<LinkSpec, ExpErr>
     requires { AreFields (length guests.now) f.now }
-    ensures given { Gives result (link_ends guests.now done.now (place row.now.section row.now.index row.now.table.now) f.now) }
+    ensures given { Gives result (link_ends guests.now done.now (table_at row.now.section row.now.index row.now.table.now) f.now) }
     ensures well { IfOk result (IsLink guests.now) }
     ensures free { IfOk result (IsFree done.now) }
 {

@@ -6,8 +6,7 @@ ghost use Rattle.toml.specs.Data.{get_member, as_str};
 ghost use Rattle.toml.specs.View.{view, table_view, items_view};
 ghost use Rattle.exp_file.specs.Rows.{Gives, at_key, needed, with_default, number_in, number, number_or, maybe_number, text, text_of, maybe_text, text_in, multiple, has_form, is_name_byte, is_not_zero, first_unknown, known, keys_of, fault_at, TextAt, TextGives, IsNameForm, some_array, some_of, format, array_in, array, sized};
 ghost use Rattle.tb_base.specs.Names.{IsNameLength};
-ghost use Rattle.exp_file.specs.RowOf.{ArrayAt, ItemsGive};
-ghost use Rattle.exp_file.specs.Places.{place};
+ghost use Rattle.exp_file.specs.RowOf.{ArrayAt, ItemsGive, table_at};
 
 use crate::exp_fault::{ExpErr, ExpFault};
 use crate::exp_why::ExpWhy;
@@ -112,7 +111,7 @@ fn copy_of(alloc: Global, t: &str) -> Result<Name, ExpErr>
 
 impl Row<'_> {
     pub(crate) fn fault(&self, key: &str, why: ExpWhy) -> ExpErr
-        ensures { result ≡ ExpErr.Fault (fault_at (place self.now.section self.now.index self.now.table.now) key.now why) }
+        ensures { result ≡ ExpErr.Fault (fault_at (table_at self.now.section self.now.index self.now.table.now) key.now why) }
     {
         ExpErr::Fault(ExpFault {
             why,
@@ -125,7 +124,7 @@ impl Row<'_> {
     /// The number at a key that the table must have.
     #[tactic(auto, unfolding(crate::specs::Rows::number))]
     pub(crate) fn number(&self, key: &str, low: u64, high: u64) -> Result<u64, ExpErr>
-        ensures given { Gives result (number (place self.now.section self.now.index self.now.table.now) key.now low high) }
+        ensures given { Gives result (number (table_at self.now.section self.now.index self.now.table.now) key.now low high) }
         ensures bound { IfOk result (λ n. (low ≤ n) × (n ≤ high)) }
     {
         match number_at(self.table, key, low, high) {
@@ -146,7 +145,7 @@ impl Row<'_> {
     ) -> Result<u64, ExpErr>
         requires low { low ≤ without }
         requires high { without ≤ high }
-        ensures given { Gives result (number_or (place self.now.section self.now.index self.now.table.now) key.now low high without) }
+        ensures given { Gives result (number_or (table_at self.now.section self.now.index self.now.table.now) key.now low high without) }
         ensures bound { IfOk result (λ n. (low ≤ n) × (n ≤ high)) }
     {
         match number_at(self.table, key, low, high) {
@@ -159,7 +158,7 @@ impl Row<'_> {
     /// The number at a key, if the table has it.
     #[tactic(auto, unfolding(crate::specs::Rows::maybe_number))]
     pub(crate) fn maybe_number(&self, key: &str, low: u32, high: u32) -> Result<Option<u32>, ExpErr>
-        ensures given { Gives result (maybe_number (place self.now.section self.now.index self.now.table.now) key.now low high) }
+        ensures given { Gives result (maybe_number (table_at self.now.section self.now.index self.now.table.now) key.now low high) }
         ensures bound { IfOk result (λ o. IfSome o (λ n. (low ≤ n) × (n ≤ high))) }
     {
         match number_at(self.table, key, u64::from(low), u64::from(high)) {
@@ -172,7 +171,7 @@ impl Row<'_> {
     /// The format of an image.
     #[tactic(auto, unfolding(crate::specs::Rows::format))]
     pub(crate) fn format(&self) -> Result<Format, ExpErr>
-        ensures { Gives result (format (place self.now.section self.now.index self.now.table.now)) }
+        ensures { Gives result (format (table_at self.now.section self.now.index self.now.table.now)) }
     {
         match text_at(self.table, "format", Form::ImageKind) {
             Ok(Some(t)) => Ok(if t == "flat" {
@@ -189,7 +188,7 @@ impl Row<'_> {
     #[tactic(auto, unfolding(crate::specs::Rows::multiple))]
     pub(crate) fn multiple(&self, key: &str, n: u64, of: u64) -> Result<(), ExpErr>
         requires { 0 < of }
-        ensures given { Gives result (multiple (place self.now.section self.now.index self.now.table.now) key.now n of) }
+        ensures given { Gives result (multiple (table_at self.now.section self.now.index self.now.table.now) key.now n of) }
         ensures is { OnOk result (n % of ≡ 0) }
     {
         if n % of == 0 {
@@ -202,7 +201,7 @@ impl Row<'_> {
     /// The text at a key that the table must have.
     #[tactic(auto, unfolding(crate::specs::Rows::text))]
     pub(crate) fn text(&self, key: &str, form: Form) -> Result<&str, ExpErr>
-        ensures given { TextGives result (text (place self.now.section self.now.index self.now.table.now) key.now form) }
+        ensures given { TextGives result (text (table_at self.now.section self.now.index self.now.table.now) key.now form) }
         ensures form { IfOk result (λ t. has_form form t.now ≡ true) }
     {
         match text_at(self.table, key, form) {
@@ -215,7 +214,7 @@ impl Row<'_> {
     /// The name at a key that the table must have.
     pub(crate) fn name(&self, alloc: Global, key: &str, form: Form) -> Result<Name, ExpErr>
         requires { IsNameForm form }
-        ensures given { Gives result (text (place self.now.section self.now.index self.now.table.now) key.now form) }
+        ensures given { Gives result (text (table_at self.now.section self.now.index self.now.table.now) key.now form) }
         ensures form { IfOk result (λ t. has_form form t ≡ true) }
     {
         match self.text(key, form) {
@@ -233,7 +232,7 @@ impl Row<'_> {
         form: Form,
     ) -> Result<Option<Name>, ExpErr>
         requires { IsNameForm form }
-        ensures given { Gives result (maybe_text (place self.now.section self.now.index self.now.table.now) key.now form) }
+        ensures given { Gives result (maybe_text (table_at self.now.section self.now.index self.now.table.now) key.now form) }
         ensures form { IfOk result (λ o. IfSome o (λ t. has_form form t ≡ true)) }
     {
         match text_at(self.table, key, form) {
@@ -249,7 +248,7 @@ impl Row<'_> {
     /// Refuses a key that the table does not have.
     #[tactic(auto, unfolding(crate::specs::Rows::known))]
     pub(crate) fn known(&self) -> Result<(), ExpErr>
-        ensures { Gives result (known (place self.now.section self.now.index self.now.table.now)) }
+        ensures { Gives result (known (table_at self.now.section self.now.index self.now.table.now)) }
     {
         match unknown_key(self.section, self.table) {
             None => Ok(()),
@@ -260,7 +259,7 @@ impl Row<'_> {
     /// The items of the array at a key; none where the table has no such key.
     #[tactic(auto, unfolding(crate::specs::Rows::array))]
     pub(crate) fn array(&self, key: &str, most: usize) -> Result<&[Value], ExpErr>
-        ensures given { ItemsGive result (array (place self.now.section self.now.index self.now.table.now) key.now most) }
+        ensures given { ItemsGive result (array (table_at self.now.section self.now.index self.now.table.now) key.now most) }
         ensures bound { IfOk result (λ vs. length vs.now ≤ most) }
     {
         match array_at(self.table, key, most) {
@@ -277,7 +276,7 @@ impl Row<'_> {
         most: usize,
         none: ExpWhy,
     ) -> Result<&[Value], ExpErr>
-        ensures given { ItemsGive result (some_array (place self.now.section self.now.index self.now.table.now) key.now most none) }
+        ensures given { ItemsGive result (some_array (table_at self.now.section self.now.index self.now.table.now) key.now most none) }
         ensures bound { IfOk result (λ vs. (0 < length vs.now) × (length vs.now ≤ most)) }
     {
         match self.array(key, most) {
@@ -292,7 +291,7 @@ impl Row<'_> {
         none: ExpWhy,
         values: &'a [Value],
     ) -> Result<&'a [Value], ExpErr>
-        ensures given { ItemsGive result (some_of (place self.now.section self.now.index self.now.table.now) key.now none (items_view values.now)) }
+        ensures given { ItemsGive result (some_of (table_at self.now.section self.now.index self.now.table.now) key.now none (items_view values.now)) }
         ensures same { IfOk result (λ vs. (0 < length vs.now) × (length vs.now ≡ length values.now)) }
     {
         if values.is_empty() {

@@ -3,9 +3,8 @@ ghost use Rattle.std.specs.Prelude.{IfOk};
 ghost use Rattle.exp_file.specs.WellFormed.{IsSlot};
 ghost use Rattle.toml.specs.View.{view};
 ghost use Rattle.exp_file.specs.Rows.{Gives};
-ghost use Rattle.exp_file.specs.Places.{place};
 ghost use Rattle.exp_file.specs.Tables.{row, slot_of};
-ghost use Rattle.exp_file.specs.RowOf.{RowGives};
+ghost use Rattle.exp_file.specs.RowOf.{RowGives, table_at};
 
 use crate::each::Step;
 use crate::exp_fault::{ExpErr, ExpFault};
@@ -39,7 +38,7 @@ pub(crate) fn row(section: Section, index: u32, value: &Value) -> Result<Row<'_>
 
 #[tactic(auto, unfolding(crate::specs::Tables::slot_of))]
 fn read_slot(row: &Row<'_>) -> Result<SlotSpec, ExpErr>
-    ensures given { Gives result (slot_of (place row.now.section row.now.index row.now.table.now)) }
+    ensures given { Gives result (slot_of (table_at row.now.section row.now.index row.now.table.now)) }
     ensures well { IfOk result IsSlot }
 {
     row.known()?;

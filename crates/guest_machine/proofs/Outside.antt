@@ -1,6 +1,5 @@
 -- An address in no region.
 use Rattle.std.proofs.Common.{◌≡◌, ℕ, ◌-◌, false, cond, List, [], ◌∷◌, refl, ap, ◌∙◌}
-use Rattle.guest_machine.specs.declared.access.Access.{Access}
 use Rattle.guest_machine.specs.declared.access.Access.TheVariants.{Nowhere}
 use Rattle.guest_machine.specs.Regions.{Region, is_in, part_access, access_in}
 

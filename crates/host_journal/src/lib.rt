@@ -22,7 +22,7 @@ pub use head::Head;
 pub use held::Held;
 pub use journal_keep::JournalKeep;
 pub use keep::{Keep, KeepErr};
-pub use law::keepers_show_their_views;
+pub use law::{keepers_show_their_views, text_fixes_the_journal};
 pub use lines::{put_end, put_head, put_host_tick, put_quantum, put_slot};
 pub use quantum::Quantum;
 pub use show::Show;

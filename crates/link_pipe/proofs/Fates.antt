@@ -8,7 +8,9 @@ use Rattle.std.proofs.Math.Nat.{le-div_iff_mul-le}
 use Rattle.link_pipe.specs.declared.pipe_params.PipeParams.{PipeParams}
 use Rattle.link_pipe.specs.Offers.{Offer, offer, Leaving, leaving, Past, PipeAt, nth, end_of, leave_of, is_dropped, after_offer, past, fate, accepted, leaving_in, leaving_from}
 use Rattle.link_pipe.specs.Piped.{Piped, StandsFor, NoneBefore, InOrder, is_full, placed, offered, ended, front_in, rest_in}
+use Rattle.link_pipe.specs.PipeStates.{state_of, pipe_offered, pipe_ended, pipe_left}
 use Rattle.link_pipe.specs.Answers.{answer_of}
+use Rattle.link_pipe.proofs.Waiting.{holding}
 use Rattle.link_pipe.specs.declared.offered.Offered.TheVariants.{Taken, Dropped}
 
 nth_before : (h : List Offer) (o : Offer) (i : ℕ) → i < length h → nth (h ++ o ∷ []) i ≡ nth h i
@@ -84,7 +86,7 @@ from_later n m (f ∷ fs) a b =
       | false ↦ λ q c. let low : f.leave < m = omega (arith, leb-false n f.leave q) in rw (lt-leb m f.leave low) (from_later n m fs a c)
     ] refl b
 
-pub later_stands : (s : Piped) (h : List Offer) (n m : ℕ) → StandsFor s h n → n ≤ m → NoneBefore m s.place.held → StandsFor s h m
+pub later_stands : (s : Piped) (h : List Offer) (n m : ℕ) → StandsFor s h n → n ≤ m → NoneBefore m s.backlog.held → StandsFor s h m
 later_stands s h n m e a b =
     e ∙ ap (λ (fs : List Leaving). let at : PipeAt = record { last_end = (past s.params h (length h)).last_end; held = fs } in at) (from_later n m (accepted s.params h) a (subst (λ (at : PipeAt). NoneBefore m at.held) e b))
 
@@ -132,17 +134,17 @@ rest_is b m n e (f ∷ fs) l o =
       | false ↦ λ q. let ne : f.leave ≡ n → ⊥ = eqb-false f.leave n q in let le : n + 1 ≤ f.leave = omega (arith, o.0) in sym (all_from b (n + 1) f.leave e (f ∷ fs) le (omega arith, o.1, o.2))
     ] refl
 
-pub stands_ended : (s : Piped) (h : List Offer) (n : ℕ) → InOrder s.params.bandwidth n s.place.last_end s.place.held → StandsFor s h n → StandsFor (ended s n) h (n + 1)
+pub stands_ended : (s : Piped) (h : List Offer) (n : ℕ) → InOrder s.params.bandwidth n s.backlog.last_end s.backlog.held → StandsFor s h n → StandsFor (ended s n) h (n + 1)
 unfolding ended
 stands_ended s h n o e =
     let x : Past = past s.params h (length h) in
-    let r : rest_in n s.place.held ≡ leaving_from (n + 1) x.accepted = rest_is s.params.bandwidth n n s.place.last_end s.place.held (omega arith) o ∙ (ap (λ (at : PipeAt). leaving_from (n + 1) at.held) e ∙ from_from n (n + 1) x.accepted (omega arith)) in
-    let l : s.place.last_end ≡ x.last_end = ap (λ (at : PipeAt). at.last_end) e in
+    let r : rest_in n s.backlog.held ≡ leaving_from (n + 1) x.accepted = rest_is s.params.bandwidth n n s.backlog.last_end s.backlog.held (omega arith) o ∙ (ap (λ (at : PipeAt). leaving_from (n + 1) at.held) e ∙ from_from n (n + 1) x.accepted (omega arith)) in
+    let l : s.backlog.last_end ≡ x.last_end = ap (λ (at : PipeAt). at.last_end) e in
     cc
 
-pub given_ended : (s : Piped) (h : List Offer) (n : ℕ) → InOrder s.params.bandwidth n s.place.last_end s.place.held → StandsFor s h n → front_in n s.place.held ≡ map (λ a. a.frame) (leaving_in n (accepted s.params h))
+pub given_ended : (s : Piped) (h : List Offer) (n : ℕ) → InOrder s.params.bandwidth n s.backlog.last_end s.backlog.held → StandsFor s h n → front_in n s.backlog.held ≡ map (λ a. a.frame) (leaving_in n (accepted s.params h))
 given_ended s h n o e =
-    front_is s.params.bandwidth n n s.place.last_end s.place.held (omega arith) o ∙ ap (map (λ (a : Leaving). a.frame)) (ap (λ (at : PipeAt). leaving_in n at.held) e ∙ in_from n (accepted s.params h))
+    front_is s.params.bandwidth n n s.backlog.last_end s.backlog.held (omega arith) o ∙ ap (map (λ (a : Leaving). a.frame)) (ap (λ (at : PipeAt). leaving_in n at.held) e ∙ in_from n (accepted s.params h))
 
 pub params_offered : (s : Piped) (n : ℕ) (f : List ℕ) → (offered s n f).params ≡ s.params
 unfolding offered
@@ -159,3 +161,14 @@ params_ended s n = refl
 pub least_ended : (s : Piped) (n : ℕ) → (ended s n).least ≡ n + 1
 unfolding ended
 least_ended s n = refl
+
+pub state_offered : (s : Piped) (n : ℕ) (f : List ℕ) → state_of (offered s n f) ≡ pipe_offered (state_of s) n f
+unfolding offered
+state_offered s n f = refl
+
+pub state_ended : (s : Piped) (n : ℕ) → InOrder s.params.bandwidth n s.backlog.last_end s.backlog.held → state_of (ended s n) ≡ pipe_ended (state_of s) n
+unfolding ended
+state_ended s n o = ap (holding (state_of s)) (rest_is s.params.bandwidth n n s.backlog.last_end s.backlog.held (omega arith) o)
+
+pub left_ended : (s : Piped) (n : ℕ) → InOrder s.params.bandwidth n s.backlog.last_end s.backlog.held → front_in n s.backlog.held ≡ pipe_left (state_of s) n
+left_ended s n o = front_is s.params.bandwidth n n s.backlog.last_end s.backlog.held (omega arith) o

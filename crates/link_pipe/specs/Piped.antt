@@ -7,15 +7,15 @@ use Rattle.link_pipe.specs.Offers.{PipeAt, Leaving, leaving, Offer, pipe_at}
 -- the parameters, what is held, and the least tick that the next call may name
 pub record Piped : Type 0 where
   pub params : PipeParams
-  pub place : PipeAt
+  pub backlog : PipeAt
   pub least : ℕ
 
 abbrev pub piped : PipeParams → ℕ → List Leaving → ℕ → Piped
-piped p e fs m = record { params = p; place = record { last_end = e; held = fs }; least = m }
+piped p e fs m = record { params = p; backlog = record { last_end = e; held = fs }; least = m }
 
 -- the pipe stands for a list of offers at a tick
 abbrev pub StandsFor : Piped → List Offer → ℕ → Type 0
-StandsFor s h n = s.place ≡ pipe_at s.params h n
+StandsFor s h n = s.backlog ≡ pipe_at s.params h n
 
 -- the limits of what a pipe is set up with
 abbrev pub InLimits : PipeParams → Type 0
@@ -37,13 +37,13 @@ IsNear b m e (f ∷ fs) = (e ≤ m * b + 1514 * suc (length fs)) × IsNear b (ma
 
 pub record Sound (s : Piped) : Type 0 where
   pub limits : InLimits s.params
-  pub fits : length s.place.held ≤ s.params.queue
-  pub in_order : InOrder s.params.bandwidth s.least s.place.last_end s.place.held
-  pub near : IsNear s.params.bandwidth s.least s.place.last_end s.place.held
+  pub fits : length s.backlog.held ≤ s.params.queue
+  pub in_order : InOrder s.params.bandwidth s.least s.backlog.last_end s.backlog.held
+  pub near : IsNear s.params.bandwidth s.least s.backlog.last_end s.backlog.held
 
 -- a pipe that holds this many frames drops what it is offered
 abbrev pub is_full : Piped → Bool
-is_full s = nat_le s.params.queue (length s.place.held)
+is_full s = nat_le s.params.queue (length s.backlog.held)
 
 -- what is held after an offer, from what was held alone
 abbrev pub placed : PipeParams → PipeAt → ℕ → List ℕ → PipeAt
@@ -54,7 +54,7 @@ placed p at n f = if nat_le p.queue (length at.held) then at else record {
 
 -- the pipe after an offer
 unfoldable pub offered : Piped → ℕ → List ℕ → Piped
-offered s n f = record { params = s.params; place = placed s.params s.place n f; least = n }
+offered s n f = record { params = s.params; backlog = placed s.params s.backlog n f; least = n }
 
 -- the frames at the front that leave in tick n, and the rest
 abbrev pub front_in : ℕ → List Leaving → List (List ℕ)
@@ -67,4 +67,4 @@ rest_in n (f ∷ fs) = if nat_eq f.leave n then rest_in n fs else f ∷ fs
 
 -- the pipe after the end of a tick
 unfoldable pub ended : Piped → ℕ → Piped
-ended s n = record { params = s.params; place = record { last_end = s.place.last_end; held = rest_in n s.place.held }; least = n + 1 }
+ended s n = record { params = s.params; backlog = record { last_end = s.backlog.last_end; held = rest_in n s.backlog.held }; least = n + 1 }

@@ -5,5 +5,5 @@ ghost use Rattle.link_pipe.specs.Piped.{Piped, StandsFor, NoneBefore};
 
 /// A pipe that no one calls stands for the same offers at a later tick, as long as none of its frames leaves before.
 pub fn pipe_waits()
-    ensures { (s : Piped) (h : List Offer) (n m : ℕ) → StandsFor s h n → n ≤ m → NoneBefore m s.place.held → StandsFor s h m }
+    ensures { (s : Piped) (h : List Offer) (n m : ℕ) → StandsFor s h n → n ≤ m → NoneBefore m s.backlog.held → StandsFor s h m }
 {}

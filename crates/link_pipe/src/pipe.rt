@@ -3,6 +3,7 @@ ghost use Rattle.std.specs.Prelude.{◌≡◌, ℕ, ◌+◌, ◌≤◌, ◌<◌,
 ghost use Rattle.circular_buffer.specs.Buffer.{buffer};
 ghost use Rattle.link_pipe.specs.Offers.{Offer, offer, fate, accepted, leaving_in, leaving_from, first_leave};
 ghost use Rattle.link_pipe.specs.Piped.{StandsFor, InLimits, NoneBefore, is_full, offered, ended, front_in, rest_in, InOrder};
+ghost use Rattle.link_pipe.specs.PipeStates.{state_of, new_pipe, pipe_offered, pipe_ended, pipe_left};
 ghost use Rattle.link_pipe.specs.Answers.{answer_of};
 
 use crate::held_frame::HeldFrame;
@@ -84,8 +85,9 @@ impl Pipe {
         requires { InLimits params }
         ensures params { IfOk result (λ p. p.params ≡ params) }
         ensures opening { IfOk result (λ p. (n : ℕ) → StandsFor p [] n) }
+        ensures state { IfOk result (λ p. state_of p ≡ new_pipe params) }
         ensures least { IfOk result (λ p. p.least ≡ 0) }
-        ensures none_before { IfOk result (λ p. NoneBefore 0 p.place.held) }
+        ensures none_before { IfOk result (λ p. NoneBefore 0 p.backlog.held) }
     {
         match HeapCircularBuffer::with_capacity(alloc, params.queue as usize) {
             Ok(held) => Ok(Pipe {
@@ -102,7 +104,7 @@ impl Pipe {
     fn put(&mut self, now: u64, frame: Frame) -> Offered
         requires early { now ≤ 2 ^ 40 }
         requires later { self.old.least ≤ now }
-        requires none_before { NoneBefore now self.old.place.held }
+        requires none_before { NoneBefore now self.old.backlog.held }
         ensures pipe { self.new ≡ offered self.old now frame }
         ensures answer { result ≡ (if is_full self.old then Offered.Dropped frame else Offered.Taken) }
         ensures premises { (1 ≤ self.old.params.bandwidth) × (1 ≤ length frame) }
@@ -121,24 +123,32 @@ impl Pipe {
 
     /// It does nothing: its clause says what a pipe keeps, that no held frame leaves before the least tick that the next call may name.
     fn hold(&self)
-        ensures { NoneBefore self.now.least self.now.place.held }
+        ensures { NoneBefore self.now.least self.now.backlog.held }
     {
         let _ = &self.least;
+    }
+
+    /// Whether the pipe drops what it is offered, up to the tick in which the first held frame leaves.
+    pub fn is_full(&self) -> bool
+        ensures { result ≡ is_full self.now }
+    {
+        self.held.len() >= self.params.queue as usize
     }
 
     /// Offers a frame in this tick. It is dropped exactly where the queue is full of frames that leave in this tick or later.
     pub fn offer(&mut self, now: u64, frame: Frame) -> Offered
         requires early { now ≤ 2 ^ 40 }
         requires later { self.old.least ≤ now }
-        requires none_before { NoneBefore now self.old.place.held }
+        requires none_before { NoneBefore now self.old.backlog.held }
         ensures stands { (h : List Offer) → StandsFor self.old h now → StandsFor self.new (h ++ offer now frame ∷ []) now }
         ensures answer { (h : List Offer) → StandsFor self.old h now →
             result ≡ answer_of (fate self.old.params (h ++ offer now frame ∷ []) (length h)) frame }
         ensures dropped { result ≡ (if is_full self.old then Offered.Dropped frame else Offered.Taken) }
         ensures params { self.new.params ≡ self.old.params }
         ensures pipe { self.new ≡ offered self.old now frame }
+        ensures state { state_of self.new ≡ pipe_offered (state_of self.old) now frame }
         ensures least { self.new.least ≡ now }
-        ensures none_before { NoneBefore now self.new.place.held }
+        ensures none_before { NoneBefore now self.new.backlog.held }
     {
         let answer = self.put(now, frame);
         self.hold();
@@ -149,10 +159,10 @@ impl Pipe {
     fn give_up(&mut self, now: u64, out: &mut ItemList<Frame>) -> Result<(), NoMemory>
         requires early { now ≤ 2 ^ 40 }
         requires later { self.old.least ≤ now }
-        requires none_before { NoneBefore now self.old.place.held }
+        requires none_before { NoneBefore now self.old.backlog.held }
         ensures pipe { OnOk result (self.new ≡ ended self.old now) }
-        ensures given { OnOk result (out.new.items ≡ out.old.items ++ front_in now self.old.place.held) }
-        ensures in_order { OnOk result (InOrder self.old.params.bandwidth now self.old.place.last_end self.old.place.held) }
+        ensures given { OnOk result (out.new.items ≡ out.old.items ++ front_in now self.old.backlog.held) }
+        ensures in_order { OnOk result (InOrder self.old.params.bandwidth now self.old.backlog.last_end self.old.backlog.held) }
         ensures refused { OnErr result ((self.new ≡ self.old) × (out.new.items ≡ out.old.items)) }
     {
         out.reserve(self.held.len())?;
@@ -165,14 +175,16 @@ impl Pipe {
     pub fn end_tick(&mut self, now: u64, out: &mut ItemList<Frame>) -> Result<(), NoMemory>
         requires early { now ≤ 2 ^ 40 }
         requires later { self.old.least ≤ now }
-        requires none_before { NoneBefore now self.old.place.held }
+        requires none_before { NoneBefore now self.old.backlog.held }
         ensures stands { OnOk result ((h : List Offer) → StandsFor self.old h now → StandsFor self.new h (now + 1)) }
         ensures given { OnOk result ((h : List Offer) → StandsFor self.old h now →
             out.new.items ≡ out.old.items ++ map (λ a. a.frame) (leaving_in now (accepted self.old.params h))) }
         ensures params { OnOk result (self.new.params ≡ self.old.params) }
         ensures pipe { OnOk result (self.new ≡ ended self.old now) }
+        ensures state { OnOk result (state_of self.new ≡ pipe_ended (state_of self.old) now) }
+        ensures left { OnOk result (out.new.items ≡ out.old.items ++ pipe_left (state_of self.old) now) }
         ensures least { OnOk result (self.new.least ≡ now + 1) }
-        ensures none_before { OnOk result (NoneBefore (now + 1) self.new.place.held) }
+        ensures none_before { OnOk result (NoneBefore (now + 1) self.new.backlog.held) }
         ensures refused { OnErr result ((self.new ≡ self.old) × (out.new.items ≡ out.old.items)) }
     {
         self.give_up(now, out)?;
@@ -182,9 +194,9 @@ impl Pipe {
 
     /// The tick in which the first held frame leaves, none where no frame is held. No held frame leaves before it.
     pub fn next_leave(&self) -> Option<u64>
-        ensures first { result ≡ first_leave self.now.place.held }
+        ensures first { result ≡ first_leave self.now.backlog.held }
         ensures stands { (h : List Offer) (n : ℕ) → StandsFor self.now h n → result ≡ first_leave (leaving_from n (accepted self.now.params h)) }
-        ensures none_before { IfSome result (λ n. NoneBefore n self.now.place.held) }
+        ensures none_before { IfSome result (λ n. NoneBefore n self.now.backlog.held) }
     {
         let first = self.held.front()?;
         Some(first.leave)

@@ -65,10 +65,12 @@ fn deliver_one(
     ensures size { length ram.new ≡ length ram.old }
     ensures front { StaysInFront log.old.items log.new.items }
 {
-    match queue.take_chain(ram) {
+    // A chain is large, so it is looked at where it stands.
+    let took = queue.take_chain(ram);
+    match &took {
         Took::Empty => Ok(false),
         Took::Broken(why) => {
-            break_down(now, slot, why, regs, log)?;
+            break_down(now, slot, *why, regs, log)?;
             Ok(false)
         }
         Took::Chain(chain) => {
@@ -76,7 +78,7 @@ fn deliver_one(
                 break_down(now, slot, Why::ShortBuffer, regs, log)?;
                 return Ok(false);
             };
-            let len = put_frame(&chain, &frame, ram);
+            let len = put_frame(chain, &frame, ram);
             put_back(chain.head, len, regs, queue, ram);
             log.push(Rec {
                 tick: now,

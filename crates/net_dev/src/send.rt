@@ -32,10 +32,7 @@ fn read_frame(alloc: Global, chain: &Chain, len: u32, ram: &Ram) -> Result<Frame
         Err(_) => return Err(NoMemory),
     };
     chain.read_at(ram, HEADER_LEN, &mut bytes);
-    match Frame::new(alloc, &bytes) {
-        Ok(frame) => Ok(frame),
-        Err(_) => Err(NoMemory),
-    }
+    Ok(Frame::from_vec(bytes))
 }
 
 /// The length of the frame of a chain, 0 where there is no header.
@@ -95,14 +92,16 @@ fn send_one(
     ensures out_front { StaysInFront out.old.items out.new.items }
     ensures front { StaysInFront log.old.items log.new.items }
 {
-    match queue.take_chain(ram) {
+    // A chain is large, so it is looked at where it stands.
+    let took = queue.take_chain(ram);
+    match &took {
         Took::Empty => Ok(false),
         Took::Broken(why) => {
-            break_down(now, slot, why, regs, log)?;
+            break_down(now, slot, *why, regs, log)?;
             Ok(false)
         }
         Took::Chain(chain) => {
-            send_frame(alloc, now, nic, &chain, ram, out, log)?;
+            send_frame(alloc, now, nic, chain, ram, out, log)?;
             put_back(chain.head, 0, regs, queue, ram);
             Ok(true)
         }

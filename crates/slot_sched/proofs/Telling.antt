@@ -76,7 +76,7 @@ quantum_counts r at q recs g n legal is = elim (cases_eq q.guest g) [
   | inr other ↦ if_not q.guest g q.done n other ∙ is ∙ ap (r.ticks_by g) (sym (units_other at q g other))
 ]
 
-counts_told : (r : Rules) (es : List Entry) (at : At) (g n : ℕ) → IsLegalFrom r at es → n ≡ count_at r at g → fold (count_after g) n es ≡ count_at r (after_all at es) g
+pub counts_told : (r : Rules) (es : List Entry) (at : At) (g n : ℕ) → IsLegalFrom r at es → n ≡ count_at r at g → fold (count_after g) n es ≡ count_at r (after_all at es) g
 counts_told r [] at g n legal is = is
 counts_told r (Host t ∷ es) at g n legal is = counts_told r es (after at (Host t)) g n legal.1 is
 counts_told r (Slot s ∷ es) at g n legal is = counts_told r es (after at (Slot s)) g n legal.1 is
@@ -100,7 +100,7 @@ tells r es g empty legal =
     }
 
 -- a host tick is left where each guest has done its share
-share_done : (r : Rules) (at : At) (g : ℕ) → g < r.guests → (1 ≤ at.host → IsFull r at) → at.host / r.factor ≤ count_at r at g
+pub share_done : (r : Rules) (at : At) (g : ℕ) → g < r.guests → (1 ≤ at.host → IsFull r at) → at.host / r.factor ≤ count_at r at g
 share_done r at g lt full = elim (cases_lt 0 at.host) [
   | inl some ↦ (full some).kept_up g lt
   | inr none ↦ let zero_ticks : at.host ≡ 0 = omega (arith, none) in subst (λ (t : ℕ). t / r.factor ≤ count_at r at g) (sym zero_ticks) (omega arith)

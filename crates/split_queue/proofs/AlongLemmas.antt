@@ -4,7 +4,7 @@ use Rattle.std.specs.List.{count_by, filter}
 use Rattle.std.proofs.lemmas.List.{get_or-set_same, get_or-set_other, get_or-replicate, length-set, length_push, map-append, append-nil}
 use Rattle.std.proofs.lemmas.List.Sums.{count_by-le-length, sum_by-set}
 use Rattle.std.proofs.lemmas.List.Elements.{filter-append}
-use Rattle.std.proofs.lemmas.Bool.{cases_eq, eq-eqb, ne_eqb, leb-false, cond-true, cond-false, or_right}
+use Rattle.std.proofs.lemmas.Bool.{cases_eq, eq-eqb, ne_eqb, leb-false, cond-true, cond-false, or_right, or_parts}
 use Rattle.tb_base.specs.declared.why.Why.{Why}
 use Rattle.tb_base.specs.declared.why.Why.TheVariants.{Loop, Indirect, RangeOutside, OrderWrong, NextRange}
 use Rattle.guest_ram.specs.Bytes.{holds_range}
@@ -181,3 +181,30 @@ along_next s n p met after c a e g o =
       lengths = omega (arith, added_lengths c d, a.lengths);
     } in
     subst (λ (k : ℕ). Along s k d.next (set met p true) (after || d.writable) (added c d)) (sym (add-one n)) more
+
+third_none : (a b c t : Bool) → cond a (Some Indirect) (cond b (Some RangeOutside) (cond c (Some OrderWrong) (cond t (Some NextRange) None))) ≡ None → c ≡ false
+third_none true b c t e = absurd cc
+third_none false true c t e = absurd cc
+third_none false false true t e = absurd cc
+third_none false false false t e = refl
+
+and_true : (b : Bool) → (b && true) ≡ false → b ≡ false
+and_true true e = e
+and_true false e = refl
+
+none_after : (ram : List ℕ) (size : ℕ) (after : Bool) (d : Descriptor) → fault_of ram size after d ≡ None → d.writable ≡ false → after ≡ false
+unfolding fault_of
+none_after ram size after d e w =
+    let k = third_none d.indirect (not (holds_range ram d.addr d.len)) (after && not d.writable) (d.goes_on && nat_le size d.next) e in
+    and_true after (subst (λ (b : Bool). (after && not b) ≡ false) w k)
+
+no_writable : (ds : List Descriptor) → has_writable ds ≡ false → writable_of ds ≡ []
+no_writable [] e = refl
+no_writable (d ∷ ds) e =
+    let p = or_parts d.writable (has_writable ds) e in
+    ap (λ (b : Bool). map range_of (cond b (d ∷ filter (λ (x : Descriptor). x.writable) ds) (filter (λ (x : Descriptor). x.writable) ds))) p.0 ∙ no_writable ds p.1
+
+-- before a readable descriptor no writable one stands
+pub along_first : (s : Start) (n p : ℕ) (met : List Bool) (after : Bool) (c : ChainOf) → Along s n p met after c → fault_of s.ram s.size after (descriptor_at s.ram s.table p) ≡ None → (descriptor_at s.ram s.table p).writable ≡ false → c.writable ≡ []
+along_first s n p met after c a g w =
+    ap (λ (x : ChainOf). x.writable) a.chain ∙ no_writable (path s n) (sym a.wrote ∙ none_after s.ram s.size after (descriptor_at s.ram s.table p) g w)

@@ -7,3 +7,5 @@ pub mod WriteLemmas
 pub mod PathsEnd
 pub mod PathsIn
 pub mod WholePaths
+pub mod OneTable
+pub mod NumberLemmas

@@ -1,5 +1,6 @@
 //! A split queue.
-ghost use Rattle.std.specs.Prelude.{◌≡◌, ℕ, ◌≤◌, ◌<◌, ◌%◌, ◌==◌, Bool, false, replicate, length, Result, Option, IfOk, IfSome, OnOk};
+ghost use Rattle.std.specs.Prelude.{◌≡◌, ℕ, ◌≤◌, ◌<◌, ◌%◌, ◌==◌, Bool, false, replicate, [], length, Result, Option, IfOk, IfErr, IfSome, OnOk, Ok, Err};
+ghost use Rattle.split_queue.specs.Chains.{chain_of};
 ghost use Rattle.split_queue.specs.Queues.{Queue, IsSize, queue_of, marked};
 ghost use Rattle.split_queue.specs.Paths.{start, walked};
 ghost use Rattle.split_queue.specs.Putting.{ram_put, returned};
@@ -79,17 +80,21 @@ impl SplitQueue {
         self.taken = index_after(self.taken);
     }
 
-    /// The chain whose path begins at a head.
-    fn walk_from(&self, ram: &Ram, head: u16) -> Result<Chain, Why>
+    /// Puts the ranges of the path from a head into a chain that has none yet.
+    fn walk_from(&self, ram: &Ram, head: u16, chain: &mut Chain) -> Result<(), Why>
         requires rings { RingsIn ram.now self.now.size self.now.desc self.now.avail self.now.used }
         requires inside { head < self.now.size }
-        ensures { result ≡ walked (start ram.now self.now.desc self.now.size head) }
+        requires blank { chain.old ≡ chain_of head [] [] }
+        ensures ok { OnOk result (Ok chain.new ≡ walked (start ram.now self.now.desc self.now.size head)) }
+        ensures err { IfErr result (λ why. Err why ≡ walked (start ram.now self.now.desc self.now.size head)) }
     {
-        walk(ram, self.desc, self.size, head)
+        walk(ram, self.desc, self.size, head, chain)
     }
 
     /// Takes the next chain that the driver made available. Where there is none, or where the rings or the chain are
     /// malformed, nothing changes.
+    // A chain is large: a call would move it twice more.
+    #[inline(always)]
     pub fn take_chain(&mut self, ram: &Ram) -> Took
         ensures answer { result ≡ took ram.now self.old }
         ensures after { self.new ≡ after_take self.old result }
@@ -102,8 +107,9 @@ impl SplitQueue {
             Ok(None) => return Took::Empty,
             Err(why) => return Took::Broken(why),
         };
-        match self.walk_from(ram, head) {
-            Ok(chain) => {
+        let mut chain = Chain::new(head);
+        match self.walk_from(ram, head, &mut chain) {
+            Ok(()) => {
                 self.mark(head);
                 Took::Chain(chain)
             }

@@ -75,7 +75,7 @@ impl Chain {
         ensures is { result ≡ stream_len self.now.readable }
         ensures small { (n : ℕ) → RangesFit n self.now.readable → result ≤ 2 ^ 30 }
     {
-        ranges_len(self.readable.as_slice())
+        ranges_len(self.readable())
     }
 
     /// How many bytes the writable stream has.
@@ -83,7 +83,7 @@ impl Chain {
         ensures is { result ≡ stream_len self.now.writable }
         ensures small { (n : ℕ) → RangesFit n self.now.writable → result ≤ 2 ^ 30 }
     {
-        ranges_len(self.writable.as_slice())
+        ranges_len(self.writable())
     }
 
     /// Copies the bytes of the readable stream from a place on, as many as `to` has.
@@ -92,7 +92,7 @@ impl Chain {
         requires inside { pos + length to.old ≤ stream_len self.now.readable }
         ensures { to.new ≡ slice_range (stream ram.now self.now.readable) pos (pos + length to.old) }
     {
-        stream_read(ram, self.readable.as_slice(), pos, to);
+        stream_read(ram, self.readable(), pos, to);
     }
 
     /// Puts the bytes of `from` into the writable stream from a place on. They are written in the order of the stream: where
@@ -103,6 +103,6 @@ impl Chain {
         ensures bytes { ram.new ≡ written ram.old self.now.writable pos from.now }
         ensures size { length ram.new ≡ length ram.old }
     {
-        stream_write(ram, self.writable.as_slice(), pos, from);
+        stream_write(ram, self.writable(), pos, from);
     }
 }

@@ -1,5 +1,5 @@
 //! The walk along a chain.
-ghost use Rattle.std.specs.Prelude.{◌≡◌, ◌+◌, ◌*◌, ◌^◌, ◌≤◌, ◌<◌, Bool, length, ◌||◌, IfNone};
+ghost use Rattle.std.specs.Prelude.{◌≡◌, ◌+◌, ◌*◌, ◌^◌, ◌≤◌, ◌<◌, Bool, false, [], length, ◌||◌, IfNone, IfErr, OnOk, Ok, Err};
 ghost use Rattle.split_queue.specs.Sizes.{InRam};
 ghost use Rattle.split_queue.specs.Chains.{chain_of};
 ghost use Rattle.split_queue.specs.Paths.{start, walked, fault_of};
@@ -9,7 +9,6 @@ use crate::chain::Chain;
 use crate::descriptor::Descriptor;
 use crate::number::descriptor_at;
 use crate::range::Range;
-use arrayvec::ArrayVec;
 use guest_ram::Ram;
 use tb_base::Why;
 
@@ -36,7 +35,8 @@ fn fault_of(ram: &Ram, size: u16, after: bool, d: Descriptor) -> Option<Why>
 #[tactic(auto, unfolding(crate::specs::Walks::added))]
 fn add(chain: &mut Chain, d: Descriptor)
     requires small { d.addr < 2 ^ 32 }
-    requires room { (length chain.old.readable < 64) × (length chain.old.writable < 64) }
+    requires room { length chain.old.readable + length chain.old.writable < 64 }
+    requires order { d.writable ≡ false → chain.old.writable ≡ [] }
     ensures { chain.new ≡ added chain.old d }
 {
     let range = Range {
@@ -44,9 +44,9 @@ fn add(chain: &mut Chain, d: Descriptor)
         len: d.len,
     };
     if d.writable {
-        chain.writable.push(range);
+        chain.add_writable(range);
     } else {
-        chain.readable.push(range);
+        chain.add_readable(range);
     }
 }
 
@@ -57,18 +57,21 @@ fn either(after: bool, d: Descriptor) -> bool
     after || d.writable
 }
 
-/// The path from a head, with a table of marks.
-pub(crate) fn walk(ram: &Ram, table: u64, size: u16, head: u16) -> Result<Chain, Why>
+/// Follows the path from a head, with a table of marks, and puts its ranges into a chain that has none yet.
+pub(crate) fn walk(
+    ram: &Ram,
+    table: u64,
+    size: u16,
+    head: u16,
+    chain: &mut Chain,
+) -> Result<(), Why>
     requires inside { InRam ram.now table (16 * size) }
     requires size { size ≤ 64 }
     requires head { head < size }
-    ensures { result ≡ walked (start ram.now table size head) }
+    requires blank { chain.old ≡ chain_of head [] [] }
+    ensures ok { OnOk result (Ok chain.new ≡ walked (start ram.now table size head)) }
+    ensures err { IfErr result (λ why. Err why ≡ walked (start ram.now table size head)) }
 {
-    let mut chain = Chain {
-        head,
-        readable: ArrayVec::new(),
-        writable: ArrayVec::new(),
-    };
     let mut met = [false; 64];
     let mut after = false;
     let mut place = head;
@@ -82,9 +85,9 @@ pub(crate) fn walk(ram: &Ram, table: u64, size: u16, head: u16) -> Result<Chain,
             Some(why) => return Err(why),
             None => (),
         }
-        add(&mut chain, d);
+        add(chain, d);
         if !d.goes_on {
-            return Ok(chain);
+            return Ok(());
         }
         met[place as usize] = true;
         after = either(after, d);

@@ -47,6 +47,14 @@ impl Frame {
         }
     }
 
+    /// The frame of the bytes of a `Vec`. It takes no memory.
+    pub fn from_vec(bytes: Vec<u8>) -> Frame
+        requires { IsFrameLength (length bytes.items) }
+        ensures { result ≡ bytes.items }
+    {
+        Frame { bytes }
+    }
+
     /// The bytes of the frame.
     pub fn bytes(&self) -> &[u8]
         ensures bytes { result.now ≡ self.now }

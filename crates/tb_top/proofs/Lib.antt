@@ -1,4 +1,4 @@
 pub mod Claims
-pub mod Loading
-pub mod Putting
+mod Common
+mod Loading
 pub mod Faults

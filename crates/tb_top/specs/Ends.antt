@@ -65,7 +65,7 @@ TaskEnds w task e Done = Fits e (placed e) × PutsTask w task e
 TaskEnds w task e (Overload slot need have) = IsFirstOverload e (placed e) (record { slot = slot; need = need; have = have }) × PutsOver w task e
 TaskEnds w task e WriteFault = Rose w.out.faults w.out_after.faults × PutsTaskPart w task e
 TaskEnds w task e Memory = PutsTaskPart w task e
-TaskEnds w (Run n) e s = Quiet w × Fits e (placed e) × Unbuilt w e s
+TaskEnds w (Run n) e s = Quiet w × Fits e (placed e) × Unbuilt w.files w.files_after w.stock e s
 TaskEnds w Plan e s = ⊥
 
 -- what a status says: nothing was put, and memory ran out, or there is no experiment; or the words ask for an experiment, and so the task with it ended

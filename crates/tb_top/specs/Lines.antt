@@ -5,7 +5,7 @@ use Rattle.tb_io.specs.Causes.{Rose}
 use Rattle.tb_io.specs.Puts.{Takes, TakesPart}
 use Rattle.exp_file.specs.declared.exp_fault.ExpFault.{ExpFault}
 use Rattle.exp_file.specs.declared.exp_why.ExpWhy.{ExpWhy}
-use Rattle.exp_file.specs.declared.exp_why.ExpWhy.TheVariants.{NotToml, Missing, Unknown, WrongKind, Range, Twice, NoSuchGuest, NicTaken, NicRange, NoGuest, NoSlot, NotBuilt}
+use Rattle.exp_file.specs.declared.exp_why.ExpWhy.TheVariants.{NotToml, Missing, Unknown, WrongKind, Range, Twice, NoSuchGuest, NicTaken, NicRange, NoGuest, NoSlot}
 use Rattle.exp_file.specs.declared.section.Section.{Section}
 use Rattle.exp_file.specs.declared.section.Section.TheVariants.{Top, Slot, Guest, Disk, Link}
 use Rattle.elf_image.specs.declared.fault.ElfFault.{ElfFault}
@@ -40,7 +40,6 @@ why_word NicTaken = codes "nic-taken"
 why_word NicRange = codes "nic-range"
 why_word NoGuest = codes "no-guest"
 why_word NoSlot = codes "no-slot"
-why_word NotBuilt = codes "not-built"
 
 abbrev pub section_word : Section → List ℕ
 section_word Top = codes " top "
@@ -89,9 +88,13 @@ file_words file.Experiment = codes "experiment"
 file_words (file.Image i) = codes "image " ++ decimal i
 file_words (file.Disk i) = codes "disk " ++ decimal i
 
+-- how long the content of a disk is, and how long it may be
+abbrev pub size_words : ℕ → ℕ → List ℕ
+size_words len room = codes ": " ++ decimal len ++ codes " bytes, room " ++ decimal room
+
 unfoldable pub build_words : BuildFault → List ℕ
 build_words (build.Image guest fault) = codes "image " ++ decimal guest ++ image_words fault
-build_words (build.DiskSize disk len room) = file_words (file.Disk disk) ++ codes ": " ++ decimal len ++ codes " bytes, room " ++ decimal room
+build_words (build.DiskSize disk len room) = codes "disk " ++ decimal disk ++ size_words len room
 build_words (build.NoDevice k wanted had) = codes "stock: " ++ kind_word k ++ codes " wanted " ++ decimal wanted ++ codes ", had " ++ decimal had
 build_words build.NoMemory = codes "out of memory"
 

@@ -56,7 +56,6 @@ pub(crate) fn why_word(why: ExpWhy) -> &'static str
         ExpWhy::NicRange => "nic-range",
         ExpWhy::NoGuest => "no-guest",
         ExpWhy::NoSlot => "no-slot",
-        ExpWhy::NotBuilt => "not-built",
     }
 }
 

@@ -2,6 +2,7 @@
 #![tactic(auto)]
 
 mod ask;
+mod build;
 mod fault_words;
 mod load;
 mod report;

@@ -1,16 +1,18 @@
 //! What a run reads: the images of its guests and the content of its disks.
-ghost use Rattle.std.specs.Prelude.{◌≡◌, ◌<◌, ◌≤◌, ◌+◌, true, ℕ, List, [], length, take, OnOk, IfOk, IfErr};
-ghost use Rattle.exp_file.specs.Reading.{is_built};
+ghost use Rattle.std.specs.Prelude.{◌≡◌, ◌<◌, ◌≤◌, ◌+◌, ℕ, List, [], length, take, slice_get, Some, OnOk, IfOk, IfErr};
+ghost use Rattle.exp_file.specs.declared.experiment.Experiment.{Experiment};
 ghost use Rattle.exp_file.specs.WellFormed.{IsWellFormed};
 ghost use Rattle.host_plan.specs.Fits.{Fits, IsPlacement};
 ghost use Rattle.bench_build.specs.Building.{images_wanted, images_added, disks_wanted, disks_added};
+ghost use Rattle.bench_build.specs.Inputs.{Inputs};
 ghost use Rattle.tb_top.specs.Loads.{HasTaken, Unloaded};
+ghost use Rattle.tb_top.specs.Reads.{AreLoaded, IsContent};
 ghost use Rattle.tb_top.specs.Statuses.{OrMemory};
 ghost use Rattle.tb_top.specs.World.{files_seen};
 
 use crate::status::{FileId, Status, build_status, read_status};
 use bench_build::Builder;
-use exp_file::Experiment;
+use exp_file::{DiskSpec, Experiment};
 use host_plan::Placement;
 use std::alloc::Global;
 use tb_base::limits::{DISK_FILE, IMAGE_FILE};
@@ -50,8 +52,30 @@ fn load_image<F: Files>(
     }
 }
 
-/// Reads what the disk of this number, the next one, holds at first, and hands it to the builder. A
-/// disk without an image reads nothing.
+/// What a disk holds at first: the bytes of its image, or none where it has no image.
+fn read_content<F: Files>(
+    alloc: Global,
+    files: &mut F,
+    disk: u32,
+    spec: &DiskSpec,
+) -> Result<Vec<u8>, Status>
+    ensures content { IfOk result (λ bytes. IsContent (F.held files.old) spec.now.image bytes.items) }
+    ensures missed { IfErr result (λ s. (e : Experiment) (i : Inputs) → slice_get e.disks.items disk ≡ Some spec.now →
+        AreLoaded (F.held files.old) e.guests.items (take disk e.disks.items) i →
+        OrMemory (Unloaded (files_seen F.Files files.old) (files_seen F.Files files.new) e) s) }
+    ensures same { OnOk result (files_seen F.Files files.new ≡ files_seen F.Files files.old) }
+{
+    let name = match &spec.image {
+        Some(name) => name,
+        None => return Ok(Vec::new(alloc)),
+    };
+    match files.read(alloc, name.as_str(), DISK_FILE) {
+        Ok(bytes) => Ok(bytes),
+        Err(fault) => Err(read_status(FileId::Disk(disk), fault)),
+    }
+}
+
+/// Reads what the disk of this number, the next one, holds at first, and hands it to the builder.
 fn load_disk<F: Files>(
     alloc: Global,
     files: &mut F,
@@ -74,21 +98,11 @@ fn load_disk<F: Files>(
     ensures disks_added { OnOk result (disks_added builder.new ≡ disks_added builder.old + 1) }
 {
     let disks = e.disks.as_slice();
-    let spec = &disks[disk];
-    let name = match &spec.image {
-        Some(name) => name,
-        None => {
-            return match builder.add_disk(None) {
-                Ok(()) => Ok(()),
-                Err(fault) => Err(build_status(fault)),
-            };
-        }
+    let content = match read_content(alloc, files, disk as u32, &disks[disk]) {
+        Ok(content) => content,
+        Err(status) => return Err(status),
     };
-    let bytes = match files.read(alloc, name.as_str(), DISK_FILE) {
-        Ok(bytes) => bytes,
-        Err(fault) => return Err(read_status(FileId::Disk(disk as u32), fault)),
-    };
-    match builder.add_disk(Some(bytes.as_slice())) {
+    match builder.add_disk(Some(content.as_slice())) {
         Ok(()) => Ok(()),
         Err(fault) => Err(build_status(fault)),
     }
@@ -102,7 +116,6 @@ fn load_images<'a, F: Files>(
     p: &'a Placement,
 ) -> Result<Builder<'a>, Status>
     requires well_formed { IsWellFormed e.now }
-    requires built { is_built e.now ≡ true }
     requires placement { IsPlacement e.now p.now.slots.items }
     requires fits { Fits e.now p.now.slots.items }
     ensures taken { IfOk result (HasTaken (files_seen F.Files files.old) e.now.guests.items [] e.now p.now.slots.items) }
@@ -135,7 +148,6 @@ pub(crate) fn load<'a, F: Files>(
     p: &'a Placement,
 ) -> Result<Builder<'a>, Status>
     requires well_formed { IsWellFormed e.now }
-    requires built { is_built e.now ≡ true }
     requires placement { IsPlacement e.now p.now.slots.items }
     requires fits { Fits e.now p.now.slots.items }
     ensures taken { IfOk result (HasTaken (files_seen F.Files files.old) e.now.guests.items e.now.disks.items e.now p.now.slots.items) }

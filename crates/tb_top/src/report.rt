@@ -1,6 +1,6 @@
 //! The line of a status.
 ghost use Rattle.std.specs.Prelude.{◌≡◌, ◌++◌, ◌⊎◌, ℕ, map, take, IfOk, OnOk, true};
-ghost use Rattle.tb_top.specs.Lines.{file_words, fault_words, build_words, image_words, header_words, shown_key, shown_byte};
+ghost use Rattle.tb_top.specs.Lines.{file_words, fault_words, build_words, image_words, size_words, header_words, shown_key, shown_byte};
 ghost use Rattle.tb_top.specs.Lines.{status_line, is_made, SaysLine, Told};
 
 use crate::fault_words::{elf_word, kind_word, section_word, usage_word, why_word};
@@ -145,9 +145,8 @@ fn add_build(line: &mut Bytes, fault: &BuildFault) -> Result<(), NoMemory>
             add_image(line, *fault)?;
         }
         BuildFault::DiskSize { disk, len, room } => {
-            add_file(line, FileId::Disk(*disk))?;
-            put_field(line, b": ", *len)?;
-            put_field(line, b" bytes, room ", *room)?;
+            put_field(line, b"disk ", u64::from(*disk))?;
+            add_size(line, *len, *room)?;
         }
         BuildFault::NoDevice { kind, wanted, had } => {
             line.push_slice(b"stock: ")?;
@@ -182,6 +181,15 @@ fn add_header(line: &mut Bytes, fault: ElfFault) -> Result<(), NoMemory>
         ElfFault::BadSegment(n) | ElfFault::OutsideRam(n) => put_field(line, b" ", u64::from(n))?,
         _ => (),
     }
+    Ok(())
+}
+
+/// Adds how long the content of a disk is, and how long it may be.
+fn add_size(line: &mut Bytes, len: u64, room: u64) -> Result<(), NoMemory>
+    ensures { OnOk result (line.new ≡ line.old ++ size_words len room) }
+{
+    put_field(line, b": ", len)?;
+    put_field(line, b" bytes, room ", room)?;
     Ok(())
 }
 

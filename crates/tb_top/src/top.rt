@@ -10,10 +10,10 @@ ghost use Rattle.tb_top.specs.Plans.{Plans};
 ghost use Rattle.tb_top.specs.World.{by_kind, sink_seen, sizes, texts, world};
 
 use crate::ask::{Asked, ask};
-use crate::load::load;
+use crate::build::build;
 use crate::report::tell;
 use crate::run::run;
-use crate::status::{Status, build_status, over_status, run_status};
+use crate::status::{Status, over_status, run_status};
 use crate::words::Task;
 use bench_build::Stock;
 use dev_face::Device;
@@ -24,8 +24,8 @@ use tb_io::{Files, Sink, WriteErr};
 
 /// Runs a command: `words` are its words after the program's own name. What it reads comes from
 /// `files`, what it prints goes to `out`, one whole line a put, and why it did not end well is put
-/// to `msg` as one line. Each guest of a run gets a Clint, a Uart and its disks of the stock, all of
-/// whose boxes are blank and of the kind of their list.
+/// to `msg` as one line. Each guest of a run gets a Clint, a Uart, its disks and its nics of the stock,
+/// all of whose boxes are blank and of the kind of their list.
 pub fn diecast<F: Files, O: Sink, M: Sink>(
     alloc: Global,
     words: &[String],
@@ -90,8 +90,7 @@ fn work<F: Files, O: Sink, D: Device>(
     }
 }
 
-/// Runs an experiment: its images and disks are loaded, its bench is built of them and the devices, and
-/// run.
+/// Runs an experiment: its bench is built of what is read for it and the devices, and run.
 fn run_asked<F: Files, O: Sink, D: Device>(
     alloc: Global,
     files: &mut F,
@@ -111,13 +110,9 @@ fn run_asked<F: Files, O: Sink, D: Device>(
         Ok(()) => (),
         Err(over) => return over_status(over),
     }
-    let builder = match load(alloc, files, &asked.experiment, &asked.placement) {
-        Ok(builder) => builder,
-        Err(status) => return status,
-    };
-    let bench = match builder.finish(stock) {
+    let bench = match build(alloc, files, asked, stock) {
         Ok(bench) => bench,
-        Err(fault) => return build_status(fault),
+        Err(status) => return status,
     };
     run_status(run(alloc, &asked.experiment, host_ticks, bench, out))
 }

@@ -1,12 +1,14 @@
 //! What happens in a guest's ticks: records, their lists, and the line of each.
 #![tactic(auto)]
 
+mod law;
 mod line;
 mod log;
 mod rec;
 mod view;
 mod what;
 
+pub use law::lines_are_told_apart;
 pub use line::put_rec;
 pub use log::Log;
 pub use rec::Rec;

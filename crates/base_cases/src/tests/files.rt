@@ -117,11 +117,12 @@ vsg|link = [{ a = 'a', b = 'a', b_nic = 2, bandwidth = 1, delay = 1, queue = 1 }
 vsg|link = [{ a = 'a', b = 'a', bandwidth = 1, delay = 1, queue = 1 }]|NicTaken Link 0 b_nic\n\
 vsg|link = [{ a = 'a', b = 'a', b_nic = 1, bandwidth = 1, delay = 1, queue = 1 }, { a = 'a', a_nic = 1, b = 'a', bandwidth = 1, delay = 1, queue = 1 }]|NicTaken Link 1 a_nic\n\
 vsp|link = [{ a = 'a', b = 'b', bandwidth = 1, delay = 1, queue = 1 }, { a = 'a', a_nic = 1, b = 'b', bandwidth = 1, delay = 1, queue = 1 }]|NicTaken Link 1 b_nic\n\
-vsg||NotBuilt Top 0 \n\
-vsg|disk = [{ guest = 'a', sectors = 1, base = 1 }]|NotBuilt Top 0 \n\
-vso|disk = [{ guest = 'a', sectors = 1, base = 1 }]|Read\n\
-vso|disk = [{ guest = 'a', sectors = 32768, image = 'a', base = 1000000, per_sector = 1000000, seek_num = 1000000, seek_den = 1000000 }, { guest = 'a', sectors = 1, base = 1, per_sector = 0, seek_num = 0, seek_den = 1 }]|Read\n\
-vsg|link = [{ a = 'a', b = 'a', b_nic = 1, bandwidth = 1, delay = 1, queue = 1 }]|NotBuilt Top 0 \n\
+vsg||Read\n\
+vs|guest = [{ name = 'a', image = 'a', rate = 1, nics = 4 }]|Read\n\
+vsg|disk = [{ guest = 'a', sectors = 1, base = 1 }]|Read\n\
+vsg|disk = [{ guest = 'a', sectors = 32768, image = 'a', base = 1000000, per_sector = 1000000, seek_num = 1000000, seek_den = 1000000 }, { guest = 'a', sectors = 1, base = 1, per_sector = 0, seek_num = 0, seek_den = 1 }]|Read\n\
+vsg|link = [{ a = 'a', b = 'a', b_nic = 1, bandwidth = 100, delay = 1, queue = 1 }]|Read\n\
+vsp|link = [{ a = 'a', a_nic = 1, b = 'b', bandwidth = 1000000, delay = 10000, queue = 1000 }]|Read\n\
 vs|guest = [{ name = \"a\", image = \"a.bin\", format = \"flat\", ram = 4096, rate = 2, slot = 0 }]|Read\n\
 vs|guest = [{ name = \"a\", image = \"a.bin\", format = \"flat\", ram = 4096, rate = 2 }]|Read\n\
 vs|guest = [{ name = \"a\", image = \"a.bin\", ram = 4096, rate = 2, slot = 0 }]|Read\n\
@@ -135,7 +136,6 @@ fn part_of(letter: u8) -> &'static str {
         b'z' => "zone = 1\n",
         b's' => "slot = [{ capacity = 1 }]\n",
         b'g' => "guest = [{ name = 'a', image = 'a', rate = 1, nics = 2 }]\n",
-        b'o' => "guest = [{ name = 'a', image = 'a', rate = 1 }]\n",
         _ =>
             "guest = [{ name = 'a', image = 'a', rate = 1, nics = 2 }, { name = 'b', image = 'b', rate = 1, nics = 1 }]\n",
     }

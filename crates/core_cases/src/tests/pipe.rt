@@ -10,7 +10,7 @@ use tb_base::{Frame, ItemList};
 /// A pipe with nothing in it.
 fn new_pipe(alloc: Global, bandwidth: u64, queue: u32) -> Result<Pipe, Fail>
     requires { InLimits (record { bandwidth = bandwidth; queue = queue }) }
-    ensures { IfOk result (λ p. (p.least ≡ 0) × NoneBefore 0 p.place.held) }
+    ensures { IfOk result (λ p. (p.least ≡ 0) × NoneBefore 0 p.backlog.held) }
 {
     Ok(Pipe::new(alloc, PipeParams { bandwidth, queue })?)
 }

@@ -591,16 +591,248 @@ guest = [
 --
 diecast: experiment: range guest 0 ram
 ==
+plan a.toml|0|all|0|1
+version = 1
+factor = 2
+slot = [{ capacity = 4 }]
+guest = [
+  { name = 'a', image = 'jump', format = 'flat', ram = 4096, rate = 3, slot = 0, nics = 2 },
+  { name = 'b', image = 'jump', format = 'flat', ram = 4096, rate = 3, slot = 0, nics = 2 },
+  { name = 'c', image = 'jump', format = 'flat', ram = 4096, rate = 2, slot = 0, nics = 2 },
+]
+link = [
+  { a = 'a', a_nic = 0, b = 'b', b_nic = 0, bandwidth = 100, delay = 1, queue = 1 },
+  { a = 'b', a_nic = 1, b = 'c', b_nic = 0, bandwidth = 100, delay = 1, queue = 1 },
+  { a = 'c', a_nic = 1, b = 'a', b_nic = 1, bandwidth = 100, delay = 1, queue = 1 },
+]
+--
+plan factor 2 slots 1 guests 3
+slot 0 need 8 have 8
+guest 0 a slot 0 rate 3
+guest 1 b slot 0 rate 3
+guest 2 c slot 0 rate 2
+least 2 slot 0
+fits
+--
+==
+run a.toml --host-ticks 4 --view journal|0|schedule|0|4
+version = 1
+factor = 2
+slot = [{ capacity = 4 }]
+guest = [
+  { name = 'a', image = 'jump', format = 'flat', ram = 4096, rate = 3, slot = 0, nics = 2 },
+  { name = 'b', image = 'jump', format = 'flat', ram = 4096, rate = 3, slot = 0, nics = 2 },
+  { name = 'c', image = 'jump', format = 'flat', ram = 4096, rate = 2, slot = 0, nics = 2 },
+]
+link = [
+  { a = 'a', a_nic = 0, b = 'b', b_nic = 0, bandwidth = 100, delay = 1, queue = 1 },
+  { a = 'b', a_nic = 1, b = 'c', b_nic = 0, bandwidth = 100, delay = 1, queue = 1 },
+  { a = 'c', a_nic = 1, b = 'a', b_nic = 1, bandwidth = 100, delay = 1, queue = 1 },
+]
+--
+diecast 1 factor 2 slots 1 guests 3 host 4
+host 1
+slot 0
+run 0 units 3 done 1
+run 1 units 1 done 0
+host 2
+slot 0
+run 1 units 2 done 1
+run 2 units 2 done 1
+host 3
+slot 0
+run 0 units 3 done 2
+run 1 units 1 done 1
+host 4
+slot 0
+run 1 units 2 done 2
+run 2 units 2 done 2
+end 4
+--
+==
+plan a.toml|0|all|0|1
+version = 1
+factor = 2
+slot = [{ capacity = 4 }]
+guest = [
+  { name = 'a', image = 'jump', format = 'flat', ram = 4096, rate = 3, slot = 0, nics = 2 },
+  { name = 'b', image = 'jump', format = 'flat', ram = 4096, rate = 3, slot = 0, nics = 2 },
+  { name = 'c', image = 'jump', format = 'flat', ram = 4096, rate = 2, slot = 0, nics = 2 },
+]
+link = [
+  { a = 'a', a_nic = 0, b = 'b', b_nic = 0, bandwidth = 100, delay = 10000, queue = 1 },
+  { a = 'b', a_nic = 1, b = 'c', b_nic = 0, bandwidth = 100, delay = 10000, queue = 1 },
+  { a = 'c', a_nic = 1, b = 'a', b_nic = 1, bandwidth = 100, delay = 10000, queue = 1 },
+]
+--
+plan factor 2 slots 1 guests 3
+slot 0 need 8 have 8
+guest 0 a slot 0 rate 3
+guest 1 b slot 0 rate 3
+guest 2 c slot 0 rate 2
+least 2 slot 0
+fits
+--
+==
+run a.toml --host-ticks 4 --view journal|0|schedule|0|4
+version = 1
+factor = 2
+slot = [{ capacity = 4 }]
+guest = [
+  { name = 'a', image = 'jump', format = 'flat', ram = 4096, rate = 3, slot = 0, nics = 2 },
+  { name = 'b', image = 'jump', format = 'flat', ram = 4096, rate = 3, slot = 0, nics = 2 },
+  { name = 'c', image = 'jump', format = 'flat', ram = 4096, rate = 2, slot = 0, nics = 2 },
+]
+link = [
+  { a = 'a', a_nic = 0, b = 'b', b_nic = 0, bandwidth = 100, delay = 10000, queue = 1 },
+  { a = 'b', a_nic = 1, b = 'c', b_nic = 0, bandwidth = 100, delay = 10000, queue = 1 },
+  { a = 'c', a_nic = 1, b = 'a', b_nic = 1, bandwidth = 100, delay = 10000, queue = 1 },
+]
+--
+diecast 1 factor 2 slots 1 guests 3 host 4
+host 1
+slot 0
+run 0 units 3 done 1
+run 1 units 1 done 0
+host 2
+slot 0
+run 1 units 2 done 1
+run 2 units 2 done 1
+host 3
+slot 0
+run 0 units 3 done 2
+run 1 units 1 done 1
+host 4
+slot 0
+run 1 units 2 done 2
+run 2 units 2 done 2
+end 4
+--
+==
+run a.toml --host-ticks 2 --view journal|0|schedule|0|3
+version = 1
+factor = 1
+slot = [{ capacity = 1 }, { capacity = 100 }]
+guest = [
+  { name = 'a', image = 'jump', format = 'flat', ram = 4096, rate = 1, slot = 0, nics = 1 },
+  { name = 'b', image = 'jump', format = 'flat', ram = 4096, rate = 1, slot = 1, nics = 1 },
+]
+link = [{ a = 'a', b = 'b', bandwidth = 100, delay = 3, queue = 1 }]
+--
+diecast 1 factor 1 slots 2 guests 2 host 2
+host 1
+slot 0
+run 0 units 1 done 1
+slot 1
+run 1 units 1 done 1
+run 1 units 1 done 2
+run 1 units 1 done 3
+run 1 units 1 done 4
+host 2
+slot 0
+run 0 units 1 done 2
+slot 1
+run 1 units 1 done 5
+end 2
+--
+==
+run a.toml --host-ticks 2 --view journal|0|schedule|0|3
+version = 1
+factor = 1
+slot = [{ capacity = 1 }, { capacity = 100 }]
+guest = [
+  { name = 'a', image = 'jump', format = 'flat', ram = 4096, rate = 1, slot = 0, nics = 1 },
+  { name = 'b', image = 'jump', format = 'flat', ram = 4096, rate = 1, slot = 1, nics = 1 },
+]
+link = [{ a = 'a', b = 'b', bandwidth = 100, delay = 1, queue = 1 }]
+--
+diecast 1 factor 1 slots 2 guests 2 host 2
+host 1
+slot 0
+run 0 units 1 done 1
+slot 1
+run 1 units 1 done 1
+run 1 units 1 done 2
+host 2
+slot 0
+run 0 units 1 done 2
+slot 1
+run 1 units 1 done 3
+end 2
+--
+==
+run a.toml --host-ticks 4 --view journal|0|all|0|2
+version = 1
+factor = 2
+slot = [{ capacity = 1 }]
+guest = [
+  { name = 'a', image = 'jump', format = 'flat', ram = 4096, rate = 2, slot = 0, nics = 2 },
+]
+link = [{ a = 'a', a_nic = 0, b = 'a', b_nic = 1, bandwidth = 100, delay = 1, queue = 1 }]
+--
+diecast 1 factor 2 slots 1 guests 1 host 4
+host 1
+slot 0
+run 0 units 1 done 0
+host 2
+slot 0
+run 0 units 1 done 1
+0 0 instr 80000000 0000006f
+0 0 instr 80000000 0000006f
+host 3
+slot 0
+run 0 units 1 done 1
+host 4
+slot 0
+run 0 units 1 done 2
+1 0 instr 80000000 0000006f
+1 0 instr 80000000 0000006f
+end 4
+--
+==
 run a.toml --host-ticks 4 --view journal|0|all|3|1
 version = 1
 factor = 2
 slot = [{ capacity = 1 }]
 guest = [
-  { name = 'a', image = 'jump', format = 'flat', ram = 4096, rate = 2, slot = 0, nics = 1 },
+  { name = 'a', image = 'jump', format = 'flat', ram = 4096, rate = 2, slot = 0, nics = 2 },
 ]
+link = [{ a = 'a', a_nic = 0, b = 'a', b_nic = 0, bandwidth = 100, delay = 1, queue = 1 }]
 --
 --
-diecast: experiment: not-built top 0 -
+diecast: experiment: nic-taken link 0 b_nic
+==
+run a.toml --host-ticks 7 --view journal|0|devices|0|3
+version = 1
+factor = 1
+slot = [{ capacity = 200 }]
+guest = [
+  { name = 'a', image = 'send', format = 'flat', ram = 4096, rate = 100, nics = 1 },
+  { name = 'b', image = 'receive', format = 'flat', ram = 4096, rate = 100, nics = 1 },
+]
+link = [{ a = 'a', b = 'b', bandwidth = 100, delay = 4, queue = 4 }]
+--
+0 0 sent 0 250 00000000000000000000000000000000000000000000000000000000000000000000000000000000000000000000000000000000000000000000000000000000000000000000000000000000000000000000000000000000000000000000000000000000000000000000000000000000000000000000000000000000000000000000000000000000000000000000000000000000000000000000000000000000000000000000000000000000000000000000000000000000000000000000000000000000000000000000000000000000000000000000000000000000000000000000000000000000000000000000000000000000000000000000
+6 1 recv 0 250 00000000000000000000000000000000000000000000000000000000000000000000000000000000000000000000000000000000000000000000000000000000000000000000000000000000000000000000000000000000000000000000000000000000000000000000000000000000000000000000000000000000000000000000000000000000000000000000000000000000000000000000000000000000000000000000000000000000000000000000000000000000000000000000000000000000000000000000000000000000000000000000000000000000000000000000000000000000000000000000000000000000000000000000
+--
+==
+run a.toml --host-ticks 1 --view journal|0|devices|0|2
+version = 1
+factor = 1
+slot = [{ capacity = 100 }]
+guest = [{ name = 'a', image = 'send-60', format = 'flat', ram = 4096, rate = 100, nics = 1 }]
+--
+0 0 drop 0 60
+--
+==
+run a.toml --host-ticks 1 --view journal|0|devices|0|2
+version = 1
+factor = 1
+slot = [{ capacity = 100 }]
+guest = [{ name = 'a', image = 'send-8', format = 'flat', ram = 4096, rate = 100, nics = 1 }]
+--
+0 0 bad 0 8
+--
 ==
 run a.toml --host-ticks 4 --view journal|0|all|5|2
 version = 1

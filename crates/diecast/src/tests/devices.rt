@@ -11,6 +11,7 @@ use crate::ending::code_of;
 use blk_dev::Blk;
 use clint_dev::Clint;
 use dev_face::{Device, Kind};
+use net_dev::Nic;
 use std::alloc::Global;
 use std::cell::Cell;
 use std::rc::Rc;
@@ -27,13 +28,46 @@ guest = [{ name = 'a', image = 'sends', format = 'flat', rate = 4 }]
 disk = [{ guest = 'a', sectors = 1, base = 1 }]
 ";
 
-/// The same where the image of the disk is absent.
-const LOST: &str = "version = 1
+const DONE: Case = Case {
+    text: TEXT,
+    code: 0,
+    line: "",
+};
+
+const NO_UART: Case = Case {
+    text: TEXT,
+    code: 4,
+    line: "diecast: stock: uart wanted 1, had 0\n",
+};
+
+const NO_BLK: Case = Case {
+    text: TEXT,
+    code: 4,
+    line: "diecast: stock: blk wanted 1, had 0\n",
+};
+
+/// A guest with two nics.
+const ONE_NIC: Case = Case {
+    text: "version = 1
+factor = 2
+slot = [{ capacity = 1 }]
+guest = [{ name = 'a', image = 'jump', format = 'flat', ram = 4096, rate = 2, slot = 0, nics = 2 }]
+",
+    code: 4,
+    line: "diecast: stock: net wanted 2, had 1\n",
+};
+
+/// The image of the disk is absent.
+const LOST: Case = Case {
+    text: "version = 1
 factor = 1
 slot = [{ capacity = 4 }]
 guest = [{ name = 'a', image = 'sends', format = 'flat', rate = 4 }]
 disk = [{ guest = 'a', sectors = 1, image = 'lost', base = 1 }]
-";
+",
+    code: 5,
+    line: "diecast: read fault: disk 0\n",
+};
 
 /// A list of one box.
 fn list_of(alloc: Global, device: Box<dyn Device>, kind: Kind) -> Result<Vec<Box<dyn Device>>, Fail>
@@ -45,32 +79,40 @@ fn list_of(alloc: Global, device: Box<dyn Device>, kind: Kind) -> Result<Vec<Box
     Ok(list)
 }
 
-/// Whether a run of two ticks ends with this exit status and this message, where it is handed these boxes.
-fn ends_with(
+/// An experiment, and how its run of two ticks ends.
+#[derive(Clone, Copy)]
+struct Case {
+    text: &'static str,
+    code: u8,
+    line: &'static str,
+}
+
+/// Whether a run ends with the exit status and the message of its case, where it is handed these boxes.
+fn ends_so(
     alloc: Global,
-    text: &str,
+    case: Case,
     clints: Vec<Box<dyn Device>>,
     uarts: Vec<Box<dyn Device>>,
     blks: Vec<Box<dyn Device>>,
-    code: u8,
-    line: &str,
+    nets: Vec<Box<dyn Device>>,
 ) -> Result<bool, Fail>
     requires clints { All (λ s. s ≡ Blank kind.Clint) (map (⟦<Box<dyn Device> as Device>⟧.state) clints.items) }
     requires uarts { All (λ s. s ≡ Blank kind.Uart) (map (⟦<Box<dyn Device> as Device>⟧.state) uarts.items) }
     requires blks { All (λ s. s ≡ Blank kind.Blk) (map (⟦<Box<dyn Device> as Device>⟧.state) blks.items) }
+    requires nets { All (λ s. s ≡ Blank kind.Net) (map (⟦<Box<dyn Device> as Device>⟧.state) nets.items) }
 {
     let words = owned(alloc, "run a.toml --host-ticks 2 --view journal")?;
-    let mut files = Watched::new(alloc, text)?;
+    let mut files = Watched::new(alloc, case.text)?;
     let mut out = MemSink::new(alloc, 2000)?;
     let mut msg = MemSink::new(alloc, 200)?;
     let stock = Stock {
         clints,
         uarts,
         blks,
-        nets: Vec::new(alloc),
+        nets,
     };
     let status = diecast(alloc, &words, &mut files, &mut out, &mut msg, stock);
-    Ok(code_of(&status) == code && msg.bytes() == line.as_bytes())
+    Ok(code_of(&status) == case.code && msg.bytes() == case.line.as_bytes())
 }
 
 /// A list of one box of each kind, which counts its calls.
@@ -106,7 +148,7 @@ fn boxes_that_are_handed_in_are_called(rt: HostRuntime) -> Result<(), Fail> {
     let clints = counted_clint(alloc, &clint)?;
     let uarts = counted_uart(alloc, &uart)?;
     let blks = counted_blk(alloc, &blk)?;
-    let done = ends_with(alloc, TEXT, clints, uarts, blks, 0, "")?;
+    let done = ends_so(alloc, DONE, clints, uarts, blks, Vec::new(alloc))?;
     let calls = (clint.get(), uart.get(), blk.get());
     assert!(rt; done);
     assert_eq!(rt; calls, (322, 10_322, 322));
@@ -119,15 +161,14 @@ fn a_stock_without_uarts_and_disks(rt: HostRuntime) -> Result<(), Fail> {
     let alloc = rt.alloc();
     let clint = Box::new(alloc, Clint::new(alloc))?;
     let clints = list_of(alloc, clint, Kind::Clint)?;
-    let line = "diecast: stock: uart wanted 1, had 0\n";
-    let short = ends_with(
+    let none = Vec::new(alloc);
+    let short = ends_so(
         alloc,
-        TEXT,
+        NO_UART,
         clints,
+        none,
         Vec::new(alloc),
         Vec::new(alloc),
-        4,
-        line,
     )?;
     assert!(rt; short);
     Ok(())
@@ -140,8 +181,28 @@ fn a_stock_without_disks(rt: HostRuntime) -> Result<(), Fail> {
     let clints = list_of(alloc, clint, Kind::Clint)?;
     let uart = Box::new(alloc, Uart::new(alloc))?;
     let uarts = list_of(alloc, uart, Kind::Uart)?;
-    let line = "diecast: stock: blk wanted 1, had 0\n";
-    let short = ends_with(alloc, TEXT, clints, uarts, Vec::new(alloc), 4, line)?;
+    let short = ends_so(
+        alloc,
+        NO_BLK,
+        clints,
+        uarts,
+        Vec::new(alloc),
+        Vec::new(alloc),
+    )?;
+    assert!(rt; short);
+    Ok(())
+}
+
+#[test]
+fn a_stock_with_one_nic_of_two(rt: HostRuntime) -> Result<(), Fail> {
+    let alloc = rt.alloc();
+    let clint = Box::new(alloc, Clint::new(alloc))?;
+    let clints = list_of(alloc, clint, Kind::Clint)?;
+    let uart = Box::new(alloc, Uart::new(alloc))?;
+    let uarts = list_of(alloc, uart, Kind::Uart)?;
+    let nic = Box::new(alloc, Nic::new(alloc))?;
+    let nets = list_of(alloc, nic, Kind::Net)?;
+    let short = ends_so(alloc, ONE_NIC, clints, uarts, Vec::new(alloc), nets)?;
     assert!(rt; short);
     Ok(())
 }
@@ -151,8 +212,14 @@ fn a_stock_without_disks(rt: HostRuntime) -> Result<(), Fail> {
 fn a_lost_disk_and_no_boxes(rt: HostRuntime) -> Result<(), Fail> {
     let alloc = rt.alloc();
     let none = Vec::new(alloc);
-    let line = "diecast: read fault: disk 0\n";
-    let lost = ends_with(alloc, LOST, none, Vec::new(alloc), Vec::new(alloc), 5, line)?;
+    let lost = ends_so(
+        alloc,
+        LOST,
+        none,
+        Vec::new(alloc),
+        Vec::new(alloc),
+        Vec::new(alloc),
+    )?;
     assert!(rt; lost);
     Ok(())
 }

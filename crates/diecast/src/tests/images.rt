@@ -27,6 +27,23 @@ const TIMER: &[u8; 68] =
 const ALARM: &[u8; 28] =
     b"\xb7\x40\0\x02\x13\x01\x40\x1f\x23\xa0\x20\0\x23\xa2\0\0\x93\x01\0\x08\x73\xa0\x41\x30\x73\0\x50\x10";
 
+/// Stores each value of a table to the address before it, and waits. The table brings the first nic up with one buffer
+/// that it sends: a header of zeros and a frame of 250 bytes of zeros.
+const SEND: &[u8; 150] =
+    b"\x97\x02\0\0\x03\xa3\x02\x02\x63\x0a\x03\0\x83\xa3\x42\x02\x23\x20\x73\0\x93\x82\x82\0\x6f\xf0\xdf\xfe\x73\0\
+\x50\x10\x24\x10\0\x10\x01\0\0\0\x20\x10\0\x10\x01\0\0\0\x70\x10\0\x10\x0f\0\0\0\x30\x10\0\x10\x01\0\0\0\x38\
+\x10\0\x10\x01\0\0\0\x80\x10\0\x10\x80\0\0\x80\x90\x10\0\x10\x90\0\0\x80\xa0\x10\0\x10\x98\0\0\x80\x44\x10\0\
+\x10\x01\0\0\0\x50\x10\0\x10\x01\0\0\0\0\0\0\0\0\0\0\0\0\0\0\0\0\0\0\0\xa4\0\0\x80\0\0\0\0\x06\x01\0\0\0\0\0\
+\0\0\0\x01\0\0\0";
+
+/// The same with one buffer for a frame of 250 bytes that it receives.
+const RECEIVE: &[u8; 150] =
+    b"\x97\x02\0\0\x03\xa3\x02\x02\x63\x0a\x03\0\x83\xa3\x42\x02\x23\x20\x73\0\x93\x82\x82\0\x6f\xf0\xdf\xfe\x73\0\
+\x50\x10\x24\x10\0\x10\x01\0\0\0\x20\x10\0\x10\x01\0\0\0\x70\x10\0\x10\x0f\0\0\0\x30\x10\0\x10\0\0\0\0\x38\
+\x10\0\x10\x01\0\0\0\x80\x10\0\x10\x80\0\0\x80\x90\x10\0\x10\x90\0\0\x80\xa0\x10\0\x10\x98\0\0\x80\x44\x10\0\
+\x10\x01\0\0\0\0\0\0\0\0\0\0\0\0\0\0\0\0\0\0\0\0\0\0\0\0\0\0\0\xa4\0\0\x80\0\0\0\0\x06\x01\0\0\x02\0\0\0\0\0\
+\x01\0\0\0";
+
 /// An ELF file with two program headers, the second of four bytes at 116 that are loaded to
 /// 0x8000_0000: the jump in place.
 const ELF: &[u8; 120] =
@@ -35,7 +52,7 @@ const ELF: &[u8; 120] =
     \x01\0\0\0\x74\0\0\0\0\0\0\0\0\0\0\x80\x04\0\0\0\0\x10\0\0\0\0\0\0\0\0\0\0\x6f\0\0\0";
 
 /// Each program under a name of its own.
-const IMAGES: [(&str, &[u8]); 8] = [
+const IMAGES: [(&str, &[u8]); 10] = [
     ("jump", JUMP),
     ("wait", WAIT),
     ("misaligned", MISALIGNED),
@@ -44,13 +61,24 @@ const IMAGES: [(&str, &[u8]); 8] = [
     ("sends", SENDS),
     ("timer", TIMER),
     ("alarm", ALARM),
+    ("send", SEND),
+    ("receive", RECEIVE),
 ];
 
-/// Adds each program, and a page of zeros and one zero more.
+/// Where the length of the buffer stands that is sent.
+const BUFFER_LENGTH: usize = 136;
+
+/// Adds each program, and those that send a frame of 60 bytes and one of 8; and a page of zeros and one zero more.
 pub(crate) fn add_images(files: &mut MemFiles) -> Result<(), Fail> {
     for (name, bytes) in IMAGES {
         files.add(name, bytes)?;
     }
+    let mut send_60 = *SEND;
+    let mut send_8 = *SEND;
+    (send_60[BUFFER_LENGTH], send_60[BUFFER_LENGTH + 1]) = (72, 0);
+    (send_8[BUFFER_LENGTH], send_8[BUFFER_LENGTH + 1]) = (20, 0);
+    files.add("send-60", &send_60)?;
+    files.add("send-8", &send_8)?;
     files.add("more", &[0; 4097])?;
     Ok(())
 }

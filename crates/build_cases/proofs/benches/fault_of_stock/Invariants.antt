@@ -13,3 +13,6 @@ invariant-loop-2 l = All (λ s. s ≡ Blank kind.Uart) (map (state-value (own-1,
 
 abbrev pub invariant-loop-3 : goal.invariant-loop-3
 invariant-loop-3 l = All (λ s. s ≡ Blank kind.Blk) (map (state-value (own-1, lawful-own-1)).it l.blks.items)
+
+abbrev pub invariant-loop-4 : goal.invariant-loop-4
+invariant-loop-4 l = All (λ s. s ≡ Blank kind.Net) (map (state-value (own-1, lawful-own-1)).it l.nets.items)

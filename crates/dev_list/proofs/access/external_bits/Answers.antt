@@ -1,4 +1,4 @@
-use Rattle.std.proofs.Common.{◌≡◌, ◌<◌, ◌^◌, ◌-◌, ◌+◌, ◌*◌, length, map, drop, rules, arith, ap, ◌∙◌}
+use Rattle.std.proofs.Common.{◌≡◌, ◌-◌, ◌+◌, ◌*◌, map, drop, rules, arith, ap, ◌∙◌}
 use Rattle.csr_file.specs.Csrs.{bit_of}
 use Rattle.csr_file.specs.declared.lines.Lines.{Lines}
 use Rattle.dev_face.specs.States.{IsSetUp}

@@ -1,5 +1,5 @@
 -- The boxes are counted.
-use Rattle.std.proofs.Common.{refl, arith, rules}
+use Rattle.std.proofs.Common.{refl, arith}
 use Rattle.dev_face.specs.contracts.boxed.BoxDynDeviceDevice.TheImpl.{state-value}
 use Rattle.tb_top.proofs.Claims.{completes, headline, planned}
 use Rattle.tb_top.specs.World.{texts, world}
@@ -10,14 +10,14 @@ use Rattle.diecast.proofs.boxes.run_with.Goals as goal
 
 pub diecast-requires : goal.diecast-requires
 diecast-requires g c = record {
-  stock = is_stock (state-value (own-1, lawful-own-1)).it c.loop.clints.items c.loop.uarts.items c.loop-2.blks.items c.new-2.result.items
-      c.loop.invariant.clints c.loop.invariant.uarts c.loop-2.invariant.blks (search rules);
+  stock = is_stock (state-value (own-1, lawful-own-1)).it c.loop.clints.items c.loop.uarts.items c.loop-2.blks.items c.loop-3.nets.items
+      c.loop.invariant.clints c.loop.invariant.uarts c.loop-2.invariant.blks c.loop-3.invariant.nets;
 }
 
 pub returns : goal.returns
 returns g c =
-    let few : AreFew = λ b e read. (c.guests_are_few.ensures.few b e read, c.disks_are_few.ensures.few b e read) in
-    let ends = of_boxes c.loop.clints.items c.loop.uarts.items c.loop-2.blks.items c.new-2.result.items c.diecast.ensures.ends refl (omega arith) (omega arith) (omega arith) (search rules) in
+    let few : AreFew = record { guests = c.guests_are_few.ensures.few; disks = c.disks_are_few.ensures.few; nics = c.nics_are_few.ensures.few } in
+    let ends = of_boxes c.loop.clints.items c.loop.uarts.items c.loop-2.blks.items c.loop-3.nets.items c.diecast.ensures.ends refl (omega arith) (omega arith) (omega arith) (omega arith) in
     record {
       ends = ends;
       headline = headline ends c.diecast.ensures.unfailed;

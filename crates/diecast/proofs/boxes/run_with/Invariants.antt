@@ -18,3 +18,9 @@ invariant-loop-2 g l = record {
   blks : All (λ s. s ≡ Blank kind.Blk) (map (state-value (own-1, lawful-own-1)).it l.blks.items);
   blks_are : length l.blks.items ≡ l.counter;
 }
+
+abbrev pub invariant-loop-3 : goal.invariant-loop-3
+invariant-loop-3 g l = record {
+  nets : All (λ s. s ≡ Blank kind.Net) (map (state-value (own-1, lawful-own-1)).it l.nets.items);
+  nets_are : length l.nets.items ≡ l.counter;
+}

@@ -1,4 +1,4 @@
-use Rattle.std.proofs.Common.{◌≡◌, ℕ, ◌∷◌, List, Bool, false, cond, drop, sym, ◌∙◌, ap}
+use Rattle.std.proofs.Common.{◌≡◌, ℕ, ◌∷◌, List, Bool, cond, drop, sym, ◌∙◌, ap}
 use Rattle.dev_face.specs.Queues.{put_with}
 use Rattle.net_dev.specs.Backlogs.{first_frame}
 use Rattle.net_dev.proofs.Delivering.{along_more, along_stop, along_end, first_and_rest, empty_when}

@@ -1,6 +1,7 @@
 -- A run's rules start with no tick and no record.
 use Rattle.std.proofs.Common.{refl}
 use Rattle.slot_sched.specs.Schedule.{rules}
+use Rattle.slot_sched.proofs.Early.{early_told}
 use Rattle.slot_sched.proofs.Telling.{tells, kept_up}
 use Rattle.slot_sched.proofs.law.journals_tell_traces.Goals as goal
 
@@ -9,3 +10,6 @@ returns-clause-told g c = λ x p es legal i. tells (rules g.N.Node.motion x p) e
 
 pub returns-clause-kept_up : goal.returns-clause-kept_up
 returns-clause-kept_up g c = λ x p es t i legal past few lt. kept_up (rules g.N.Node.motion x p) es t i (record { ticks = refl; trace = refl }) legal past few lt
+
+pub returns-clause-early : goal.returns-clause-early
+returns-clause-early g c = early_told g.N.Node.motion

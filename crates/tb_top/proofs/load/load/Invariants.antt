@@ -1,7 +1,4 @@
-use Rattle.std.proofs.Common.{◌≡◌, length, take}
-use Rattle.bench_build.specs.Building.{images_wanted, images_added, disks_wanted, disks_added}
-use Rattle.tb_top.specs.Loads.{HasTaken}
-use Rattle.tb_top.specs.World.{files_seen}
+use Rattle.tb_top.proofs.Common.{◌≡◌, length, take, images_wanted, images_added, disks_wanted, disks_added, HasTaken, files_seen}
 use Rattle.tb_top.proofs.load.load.Given as goal
 
 abbrev pub invariant-loop-disk : goal.invariant-loop-disk

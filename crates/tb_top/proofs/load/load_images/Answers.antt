@@ -1,8 +1,5 @@
 -- The images that were taken are those of the guests before the loop's place.
-use Rattle.std.proofs.Common.{subst}
-use Rattle.tb_top.specs.Loads.{Unloaded}
-use Rattle.tb_top.specs.Statuses.{OrMemory}
-use Rattle.tb_top.specs.World.{FilesSeen, files_seen}
+use Rattle.tb_top.proofs.Common.{subst, Unloaded, OrMemory, FilesSeen, files_seen}
 use Rattle.tb_top.proofs.load.load_images.Goals as goal
 
 pub returns-in-Err-load_image-clause-missed : goal.returns-in-Err-load_image-clause-missed

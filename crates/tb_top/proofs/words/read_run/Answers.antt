@@ -1,5 +1,5 @@
 -- The words are the six that were looked at.
-use Rattle.std.proofs.Common.{◌≡◌, ℕ, ◌<◌, ◌≤◌, List, [], ◌∷◌, length, get_or, map, string_bytes, codes, refl, sym, ap, ◌∙◌, arith}
+use Rattle.tb_top.proofs.Common.{◌≡◌, ℕ, ◌<◌, ◌≤◌, List, [], ◌∷◌, length, get_or, map, refl, sym, ap, ◌∙◌, arith, codes, string_bytes}
 use Rattle.tb_top.specs.Words.{IsRun}
 use Rattle.tb_top.proofs.words.read_run.Goals as goal
 

@@ -32,5 +32,4 @@ returns-clause-building c = λ e slots i b.
       loaded = loaded_more e.guests.items i.images self.loaded.items c.push.new.self.items c.args.bytes.now c.in_ok-loaded.loaded g.0 c.in-Ok.ensures.items b.loaded g.1 one;
       count = count_push self.loaded.items c.push.new.self.items c.in_ok-loaded.loaded i.images c.args.bytes.now c.in-Ok.ensures.items b.count;
       contents = b.contents;
-      unlinked = b.unlinked;
     }

@@ -8,8 +8,8 @@ use Rattle.guest_machine.proofs.machine.MachineNode.quiet_to.Goals as goal
 pub returns-then-is_quiet-clause-value : goal.returns-then-is_quiet-clause-value
 returns-then-is_quiet-clause-value g c n at =
     let now = c.args.self.now in
-    answer_then (machine_state now) n c.is_quiet.result c.least_due.result c.next_tick-next.result c.max.result
-    (is_before now.failed (machine_state now) n at now.sent now.told now.coming) c.if-is_quiet.true c.is_quiet.ensures c.least_due.ensures c.next_tick-next.ensures c.max.ensures
+    answer_then (machine_state now) n c.is_quiet.result c.next_event.result c.next_tick-next.result c.max.result
+    (is_before now.failed (machine_state now) n at now.sent now.told now.coming) c.if-is_quiet.true c.is_quiet.ensures c.next_event.ensures c.next_tick-next.ensures c.max.ensures
 
 pub returns-then-is_quiet-clause-most : goal.returns-then-is_quiet-clause-most
 returns-then-is_quiet-clause-most g c n at =

@@ -1,5 +1,6 @@
 use Rattle.std.proofs.Common.{◌≡◌, ◌≤◌, ◌*◌, ◌-◌, All, length, false, ap, sym, ◌∙◌, subst, arith}
 use Rattle.dev_face.specs.States.{IsComing}
+use Rattle.dev_list.specs.Sending.{NoneLeaves}
 use Rattle.dev_list.proofs.Skipped.{coming_all}
 use Rattle.rv_exec.specs.HartState.{HartState}
 use Rattle.guest_machine.specs.MachineView.{machine_state}
@@ -7,7 +8,7 @@ use Rattle.guest_machine.specs.MemoryMap.{MapState}
 use Rattle.guest_machine.specs.Stretch.{IsBefore, idle_hart, machine_quiet}
 use Rattle.guest_machine.specs.Tick.{MachineState}
 use Rattle.guest_machine.proofs.Clocks.{not_both}
-use Rattle.guest_machine.proofs.IdleTicks.{is_before, leads_on, may_skip, stretched, stretch_fits}
+use Rattle.guest_machine.proofs.IdleTicks.{is_before, leads_on, may_skip, stretched, stretch_fits, waits}
 use Rattle.guest_machine.proofs.machine.MachineNode.skip_to.Goals as goal
 
 pub overflow_mul-from : goal.overflow_mul-from
@@ -24,6 +25,13 @@ skip_to-requires-clause-quiet g c =
     let n = c.requires.idle.0 in
     let is : IsBefore (machine_state now) n = is_before now.failed (machine_state now) n c.requires.idle.1 now.sent now.told now.coming in
     may_skip (machine_state now) n c.args.to is (omega (arith, c.if-ticks-gt0.true, c.next_tick.ensures, is.tick)) c.requires.idle.3
+
+pub skip_to-requires-clause-later : goal.skip_to-requires-clause-later
+skip_to-requires-clause-later g c =
+    let now = c.args.self.now in
+    let n = c.requires.idle.0 in
+    let is : IsBefore (machine_state now) n = is_before now.failed (machine_state now) n c.requires.idle.1 now.sent now.told now.coming in
+    omega (arith, is.tick, c.requires.idle.2)
 
 pub skip_to-requires-clause-early : goal.skip_to-requires-clause-early
 skip_to-requires-clause-early g c =
@@ -45,6 +53,7 @@ invariant_of-self g c =
       early = λ f b. not_both b begun;
       sent = λ f. ap (λ (m : MapState). m.sent) c.skip_to.ensures ∙ now.sent f;
       told = λ f b. now.told f is.begun;
+      waiting = λ f. subst (λ (m : MapState). All (NoneLeaves m.tick) m.pipes) (sym c.skip_to.ensures) (waits (machine_state now) n c.args.to (omega (arith, c.if-ticks-gt0.true, c.next_tick.ensures, is.tick)) c.requires.idle.3);
       coming = λ f b. subst (λ (m : MapState). All (IsComing m.tick (length m.ram)) m.devices) (sym c.skip_to.ensures) (coming_all n c.args.to (length now.map.ram) now.map.devices is.coming);
     }
 

@@ -7,7 +7,7 @@ pub invariant_of-self : goal.invariant_of-self
 invariant_of-self c =
     let s = c.self.inside in
     let lt : s.least ≤ c.args.now = subst (λ (p : Piped). p.least ≤ c.args.now) (sym c.self.view_is) c.requires.later in
-    let nb : NoneBefore c.args.now s.held.items = subst (λ (p : Piped). NoneBefore c.args.now p.place.held) (sym c.self.view_is) c.requires.none_before in
+    let nb : NoneBefore c.args.now s.held.items = subst (λ (p : Piped). NoneBefore c.args.now p.backlog.held) (sym c.self.view_is) c.requires.none_before in
     rw c.move_leaving.ensures.left (sound_ended s.params s.last_end s.least c.args.now s.held.items c.self.invariant.0 lt nb, c.move_leaving.ensures.capacity ∙ c.self.invariant.1)
 
 pub returns-clause-pipe : goal.returns-clause-pipe
@@ -18,5 +18,5 @@ returns-clause-pipe c =
 pub returns-clause-in_order : goal.returns-clause-in_order
 returns-clause-in_order c =
     let s = c.self.inside in
-    let nb : NoneBefore c.args.now s.held.items = subst (λ (p : Piped). NoneBefore c.args.now p.place.held) (sym c.self.view_is) c.requires.none_before in
-    subst (λ (p : Piped). InOrder p.params.bandwidth c.args.now p.place.last_end p.place.held) c.self.view_is (order_later s.params.bandwidth s.least c.args.now s.last_end s.held.items nb c.self.invariant.0.in_order)
+    let nb : NoneBefore c.args.now s.held.items = subst (λ (p : Piped). NoneBefore c.args.now p.backlog.held) (sym c.self.view_is) c.requires.none_before in
+    subst (λ (p : Piped). InOrder p.params.bandwidth c.args.now p.backlog.last_end p.backlog.held) c.self.view_is (order_later s.params.bandwidth s.least c.args.now s.last_end s.held.items nb c.self.invariant.0.in_order)

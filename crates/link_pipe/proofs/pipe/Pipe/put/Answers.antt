@@ -15,7 +15,7 @@ pub invariant_of-self : goal.invariant_of-self
 invariant_of-self c =
     let s = c.self.inside in
     let lt : s.least ≤ c.args.now = subst (λ (p : Piped). p.least ≤ c.args.now) (sym c.self.view_is) c.requires.later in
-    let nb : NoneBefore c.args.now s.held.items = subst (λ (p : Piped). NoneBefore c.args.now p.place.held) (sym c.self.view_is) c.requires.none_before in
+    let nb : NoneBefore c.args.now s.held.items = subst (λ (p : Piped). NoneBefore c.args.now p.backlog.held) (sym c.self.view_is) c.requires.none_before in
     let room : length s.held.items < s.params.queue = omega (arith, c.in-Ok.ensures.variant.0 refl, c.self.invariant.1) in
     rw c.in-Ok.ensures.ok (sound_put s.params s.last_end s.least c.args.now c.max.result c.frame_len.result c.args.frame s.held.items c.self.invariant.0 lt nb room c.max.ensures c.frame_len.ensures.least c.frame_len.ensures.most, c.self.invariant.1)
 
@@ -23,7 +23,7 @@ pub invariant_of-self-in-Err : goal.invariant_of-self-in-Err
 invariant_of-self-in-Err c =
     let s = c.self.inside in
     let lt : s.least ≤ c.args.now = subst (λ (p : Piped). p.least ≤ c.args.now) (sym c.self.view_is) c.requires.later in
-    let nb : NoneBefore c.args.now s.held.items = subst (λ (p : Piped). NoneBefore c.args.now p.place.held) (sym c.self.view_is) c.requires.none_before in
+    let nb : NoneBefore c.args.now s.held.items = subst (λ (p : Piped). NoneBefore c.args.now p.backlog.held) (sym c.self.view_is) c.requires.none_before in
     rw c.in-Err.ensures.err.1 (sound_later s.params s.last_end s.least c.args.now s.held.items c.self.invariant.0 lt nb, c.self.invariant.1)
 
 pub returns-in-Ok-clause-pipe : goal.returns-in-Ok-clause-pipe

@@ -1,8 +1,0 @@
--- Boxes of three kinds are a stock.
-use Rattle.diecast.proofs.Supplied.{is_stock}
-use Rattle.diecast.proofs.tests.devices.ends_with.Goals as goal
-
-pub diecast-status-requires : goal.diecast-status-requires
-diecast-status-requires g c = record {
-  stock = is_stock _ c.args.clints.items c.args.uarts.items c.args.blks.items c.new-4.result.items c.requires.clints c.requires.uarts c.requires.blks c.new-4.ensures.items;
-}

@@ -1,0 +1,7 @@
+use Rattle.std.proofs.Common.{◌≡◌, map}
+use Rattle.std.specs.List.{range_with_len}
+use Rattle.gen_load.specs.Loads.{ring_link}
+use Rattle.gen_load.proofs.experiment.links_of.Given as goal
+
+abbrev pub invariant-loop-number : goal.invariant-loop-number
+invariant-loop-number l = l.list.items ≡ map (ring_link l.count) (range_with_len 0 l.number)

@@ -1,0 +1,3 @@
+-- Claims: Loads has the generated load, of the definitions in Images.
+pub mod Images
+pub mod Loads

@@ -1,0 +1,3 @@
+//! The cases, by what they are of.
+mod loads;
+mod words;

@@ -1,0 +1,6 @@
+use Rattle.std.proofs.Common.{◌∙◌}
+use Rattle.split_queue.proofs.NumberLemmas.{four_read}
+use Rattle.split_queue.proofs.number.le32.Goals as goal
+
+pub returns : goal.returns
+returns c = c.from_le_bytes.ensures ∙ four_read c.args.ram.now _ c.args.addr (c.requires.0, c.take.ensures)
