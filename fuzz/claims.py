@@ -1,7 +1,6 @@
 """What a run of the program must keep, by docs/FORMATS.md."""
 
 import re
-import tomllib
 from dataclasses import dataclass
 
 import oracle
@@ -70,9 +69,9 @@ class Ended:
 def capacities(experiment: bytes) -> list[int]:
     """The capacities that an experiment file gives its slots, none where it says no such thing."""
     try:
-        slots = tomllib.loads(experiment.decode()).get("slot", [])
+        slots = oracle.document_of(experiment).get("slot", [])
         return [slot["capacity"] for slot in slots if isinstance(slot["capacity"], int)]
-    except (ValueError, TypeError, KeyError, AttributeError, RecursionError):
+    except (ValueError, TypeError, KeyError, AttributeError, oracle.Unsure):
         return []
 
 

@@ -1,5 +1,6 @@
 """What a run or a plan must end with, worked out from docs/FORMATS.md alone."""
 
+import math
 import struct
 import tomllib
 from typing import Any
@@ -103,7 +104,17 @@ def check_link(experiment: dict, link: Any, index: int, names: dict[str, int], t
 
 
 class Unsure(Exception):
-    """Nothing is said of this file: TOML sets no limit to how deep it nests, and the program does."""
+    """Nothing is said of this file: TOML leaves open how deep values nest, and what a number is that is too great for a float."""
+
+
+def document_of(text: bytes) -> dict:
+    """What a file says as TOML. Python's reader takes very long for a key of very many parts, or nests too deep itself."""
+    if any(line.count(b".") > 1000 for line in text.splitlines()):
+        raise Unsure
+    try:
+        return tomllib.loads(text.decode())
+    except RecursionError as deep:
+        raise Unsure from deep
 
 
 def check_values(document: dict) -> None:
@@ -111,7 +122,8 @@ def check_values(document: dict) -> None:
     left: list[tuple[Any, int]] = [(document, 0)]
     while left:
         value, depth = left.pop()
-        if depth > 60:
+        # A number that no float is near enough to is infinite to Python's reader, and refused by the program's.
+        if depth > 60 or value in (math.inf, -math.inf):
             raise Unsure
         if is_kind(value, int) and not -(1 << 63) <= value < 1 << 63:
             raise fault("not-toml", "top", 0, "")
@@ -122,9 +134,7 @@ def check_values(document: dict) -> None:
 def read(text: bytes, links: bool) -> dict:
     """The experiment that a file says."""
     try:
-        experiment = tomllib.loads(text.decode())
-    except RecursionError as deep:
-        raise Unsure from deep
+        experiment = document_of(text)
     except ValueError as refused:
         raise fault("not-toml", "top", 0, "") from refused
     check_values(experiment)

@@ -1,3 +1,4 @@
 pub mod Claims
 mod Common
 mod Loading
+pub mod Faults

@@ -1,0 +1,2 @@
+-- Claims: Faultless.
+pub mod Faultless
