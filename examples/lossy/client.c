@@ -27,6 +27,7 @@ static uint32_t send_unanswered(void)
             continue;
         net_head(&nic, &message.head);
         message.job = job;
+        message.answer = 0;
         net_send(&nic, &message, JOB_BYTES);
         sent++;
     }
