@@ -30,7 +30,7 @@ uint32_t block_sectors(const struct block *disk)
 static enum block_status answer(struct block *disk, uint32_t length)
 {
     struct chain chain;
-    while (!queue_take_back_or_acknowledge(&disk->device, &disk->queue, &chain)) {
+    while (!queue_take_back(&disk->queue, &chain)) {
         if (virtio_is_broken(&disk->device))
             return BLOCK_BROKEN;
         wait_for_device();

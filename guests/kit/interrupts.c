@@ -2,6 +2,7 @@
 
 #include "clint.h"
 #include "console.h"
+#include "lines.h"
 #include "power.h"
 
 /* Values of mcause. */
@@ -73,7 +74,7 @@ uint32_t trap(uint32_t cause, uint32_t address, uint32_t value)
         on_timer();
         return address;
     case EXTERNAL_CAUSE:
-        on_external(load_word(LINE_REGISTER));
+        on_external(lines_acknowledge());
         return address;
     default:
         return on_exception(cause, address, value);

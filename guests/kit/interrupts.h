@@ -42,6 +42,12 @@ static inline void interrupts_as_before(uint32_t held)
     csr_set(mstatus, held);
 }
 
+/* Whether these are enabled, and taken. */
+static inline int interrupts_are_taken(uint32_t which)
+{
+    return (csr_read(mstatus) & TAKES_INTERRUPTS) && (csr_read(mie) & which) == which;
+}
+
 /* Sleeps until one that is enabled is up. A guest with handlers holds interrupts back, looks whether it has to sleep at all, and sleeps so: one that
    comes after the look wakes it, and is taken when it lets go of them. */
 static inline void sleep_until_enabled(void)
@@ -61,7 +67,7 @@ void on_software(void);
 
 void on_timer(void);
 
-/* Bit i of `lines` is the line of virtio slot i. */
+/* Bit i of `lines` says that the line of virtio slot i was up. It is acknowledged already, so all that this device has given back is taken now. */
 void on_external(uint32_t lines);
 
 /* Answers the address at which to go on. */

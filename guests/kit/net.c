@@ -44,7 +44,7 @@ const char *net_start(struct net *nic, int slot, enum waits waits)
     return 0;
 }
 
-/* A buffer that is not on its way, or NET_BUFFERS where the nic is broken and gives none back. The interrupt is left alone: it may be of a frame. */
+/* A buffer that is not on its way, or NET_BUFFERS where the nic is broken and gives none back. */
 static uint32_t free_buffer(struct net *nic)
 {
     for (;;) {
@@ -80,7 +80,7 @@ int net_send(struct net *nic, const void *frame, uint32_t length)
 uint32_t net_receive(struct net *nic, void *frame, uint32_t room)
 {
     struct chain chain;
-    if (!queue_take_back_or_acknowledge(&nic->device, &nic->receives, &chain))
+    if (!queue_take_back(&nic->receives, &chain))
         return 0;
     uint32_t length = chain.length - sizeof nic->received[0].header;
     memcpy(frame, nic->received[chain.head].frame, length < room ? length : room);

@@ -3,6 +3,7 @@
 
 #include "clint.h"
 #include "interrupts.h"
+#include "lines.h"
 #include "machine.h"
 
 /* Registers (section 4.2.2). */
@@ -19,8 +20,6 @@ enum {
     QUEUE_SIZE = 0x038,
     QUEUE_READY = 0x044,
     QUEUE_NOTIFY = 0x050,
-    INTERRUPT_STATUS = 0x060,
-    INTERRUPT_ACKNOWLEDGE = 0x064,
     STATUS = 0x070,
     QUEUE_TABLE = 0x080,
     QUEUE_AVAILABLE = 0x090,
@@ -182,22 +181,19 @@ int queue_take_back(struct queue *queue, struct chain *chain)
     return 1;
 }
 
-/* An interrupt that comes after this acknowledgement wakes the wait that follows; one that came before it is of a chain that is seen here. */
-int queue_take_back_or_acknowledge(const struct virtio *device, struct queue *queue, struct chain *chain)
+/* Where the guest has a handler for it, the trap was taken when the wait ended, and all that was up is acknowledged. */
+static void acknowledge_untaken(void)
 {
-    if (queue_take_back(queue, chain))
-        return 1;
-    if (device->waits == BY_POLLING)
-        return 0;
-    set(device, INTERRUPT_ACKNOWLEDGE, get(device, INTERRUPT_STATUS));
-    order_memory();
-    return queue_take_back(queue, chain);
+    if (!interrupts_are_taken(EXTERNAL_INTERRUPT))
+        lines_acknowledge();
 }
 
 void wait_for_device(void)
 {
-    if (interrupting)
-        wait_for(EXTERNAL_INTERRUPT);
+    if (!interrupting)
+        return;
+    wait_for(EXTERNAL_INTERRUPT);
+    acknowledge_untaken();
 }
 
 void wait_for_device_until(uint64_t time)
@@ -209,4 +205,5 @@ void wait_for_device_until(uint64_t time)
     wait_for(EXTERNAL_INTERRUPT | TIMER_INTERRUPT);
     alarm_off();
     interrupts_as_before(held);
+    acknowledge_untaken();
 }

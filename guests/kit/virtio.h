@@ -87,11 +87,9 @@ void queue_notify(const struct virtio *device, const struct queue *queue);
 /* Takes back the next chain that the device has given back, and says whether there was one. */
 int queue_take_back(struct queue *queue, struct chain *chain);
 
-/* The same, but where there is none the device's interrupt is acknowledged, and it is looked for once more, so that a wait for the next may follow. */
-int queue_take_back_or_acknowledge(const struct virtio *device, struct queue *queue, struct chain *chain);
-
-/* Sleeps until a device that waits by interrupt has given a chain back, or until this time. Returns at once where there is no such device, so
-   that a loop around it polls. It uses the alarm for the time, and leaves it off. */
+/* Sleeps until a device that interrupts has given a chain back since the last wait, or until this time. The guest looks at its queues before it waits and
+   after it, since the interrupts of all of them are acknowledged here, or by the trap that is taken for them. Where no device waits by interrupt these
+   return at once, so that a loop around them polls. The alarm is used for the time, and is left off. */
 void wait_for_device(void);
 void wait_for_device_until(uint64_t time);
 
