@@ -43,6 +43,7 @@ same examples/ring ring.toml 100
 same examples/lossy lossy.toml 210
 same examples/gossip gossip.toml 30
 same guests/programs handlers.toml 40
+same guests/programs store.toml 120
 
 # Most programs of the kit share one experiment.
 for image in arithmetic csrs default_trap library traps; do
