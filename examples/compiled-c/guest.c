@@ -22,9 +22,12 @@ static uint32_t crc_of(const uint8_t *bytes, int count)
     return ~crc;
 }
 
-/* Whether the sum is the known one: then the power is turned off. */
+/* The power is turned off where the sum is the known one. Where it is not, the guest stays here. */
 int main(void)
 {
     make_table();
-    return crc_of(digits, 9) == 0xcbf43926;
+    if (crc_of(digits, 9) != 0xcbf43926)
+        for (;;)
+            ;
+    return 0;
 }

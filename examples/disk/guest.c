@@ -8,7 +8,8 @@
 enum { SECTORS = 4, FIRST_WRITTEN = 1, WRITTEN = 2 };
 enum { SECTOR_WORDS = SECTOR_BYTES / 4, TEXT_WORDS = WRITTEN * SECTOR_WORDS };
 
-static uint32_t disk[SECTORS * SECTOR_WORDS];
+static struct block disk;
+static uint32_t content[SECTORS * SECTOR_WORDS];
 static uint32_t text[TEXT_WORDS];
 
 static int said(const char *what, enum block_status status, enum block_status wanted)
@@ -27,9 +28,9 @@ static int said(const char *what, enum block_status status, enum block_status wa
 /* The first line of the first sector, which the disk is made with. */
 static int read_label(void)
 {
-    if (!said("read sector 0", block_read(0, disk, SECTOR_BYTES), BLOCK_OK))
+    if (!said("read sector 0", block_read(&disk, 0, content, SECTOR_BYTES), BLOCK_OK))
         return 0;
-    char *label = (char *)disk;
+    char *label = (char *)content;
     int length = 0;
     while (length < SECTOR_BYTES - 1 && label[length] != '\n')
         length++;
@@ -50,8 +51,8 @@ static void make_text(void)
 static int write_text(void)
 {
     make_text();
-    return said("write sectors 1 and 2", block_write(FIRST_WRITTEN, text, sizeof text), BLOCK_OK)
-        && said("flush", block_flush(), BLOCK_OK);
+    return said("write sectors 1 and 2", block_write(&disk, FIRST_WRITTEN, text, sizeof text), BLOCK_OK)
+        && said("flush", block_flush(&disk), BLOCK_OK);
 }
 
 static int is_text(const uint32_t *words)
@@ -73,14 +74,14 @@ static uint32_t sum_of(const uint8_t *data, uint32_t bytes)
 
 static int read_all(void)
 {
-    if (!said("read all sectors", block_read(0, disk, sizeof disk), BLOCK_OK))
+    if (!said("read all sectors", block_read(&disk, 0, content, sizeof content), BLOCK_OK))
         return 0;
-    if (!is_text(disk + FIRST_WRITTEN * SECTOR_WORDS)) {
+    if (!is_text(content + FIRST_WRITTEN * SECTOR_WORDS)) {
         say("wrong: sectors 1 and 2 are not as written\n");
         return 0;
     }
     say("sectors 1 and 2 are as written\nsum ");
-    say_number(sum_of((const uint8_t *)disk, sizeof disk));
+    say_number(sum_of((const uint8_t *)content, sizeof content));
     say("\n");
     return 1;
 }
@@ -88,12 +89,12 @@ static int read_all(void)
 /* One sector more than the disk has. */
 static int read_past_end(void)
 {
-    return said("read past the end", block_read(SECTORS - 1, disk, 2 * SECTOR_BYTES), BLOCK_IO_ERROR);
+    return said("read past the end", block_read(&disk, SECTORS - 1, content, 2 * SECTOR_BYTES), BLOCK_IO_ERROR);
 }
 
 static int is_right(void)
 {
-    const char *fault = block_start();
+    const char *fault = block_start(&disk, 0, BY_POLLING);
     if (fault) {
         say("wrong: ");
         say(fault);
@@ -101,16 +102,17 @@ static int is_right(void)
         return 0;
     }
     say("a disk of ");
-    say_number(block_sectors());
+    say_number(block_sectors(&disk));
     say(" sectors\n");
-    if (block_sectors() != SECTORS) {
+    if (block_sectors(&disk) != SECTORS) {
         say("wrong: another number is wanted\n");
         return 0;
     }
     return read_label() && write_text() && read_all() && read_past_end();
 }
 
-void main(void)
+int main(void)
 {
     say(is_right() ? "all is well\n" : "not well\n");
+    return 0;
 }
