@@ -25,24 +25,25 @@ class Case:
 
 
 class Inputs:
-    """What cases are made of: ELF files that are right, and whether the program has nics and links."""
+    """What cases are made of: ELF files that are right, and the views that the program has."""
 
-    def __init__(self, links: bool) -> None:
-        self.links = links
+    def __init__(self, views: list[bytes]) -> None:
+        self.views = views
         self.elf_files = images.elf_files()
 
 
-def long_run(experiment: bytes, most: int) -> list[bytes]:
-    """A run of so many host ticks that they come to about so many units."""
+def long_run(rng: Random, inputs: Inputs, experiment: bytes, most: int) -> list[bytes]:
+    """A run of so many host ticks that they come to about so many units, in any view."""
     ticks = min(1_000_000, most // max(1, sum(c for c in claims.capacities(experiment) if 0 < c <= 1_000_000)))
-    return [b"run", FILE.encode(), b"--host-ticks", str(ticks).encode(), b"--view", b"journal"]
+    view = b"journal" if rng.random() < 0.6 else rng.choice(inputs.views)
+    return [b"run", FILE.encode(), b"--host-ticks", str(ticks).encode(), b"--view", view]
 
 
-def some_words(rng: Random, experiment: bytes) -> list[bytes]:
+def some_words(rng: Random, inputs: Inputs, experiment: bytes) -> list[bytes]:
     """A plan, or a run that is short or comes to a few thousand units."""
     if rng.random() < 0.1:
         return [b"plan", FILE.encode()]
-    words = long_run(experiment, 5000)
+    words = long_run(rng, inputs, experiment, 5000)
     if rng.random() < 0.6:
         words[3] = str(min(int(words[3]), rng.choice([0, 1, 2, 50]))).encode()
     return words
@@ -65,13 +66,13 @@ def with_files(rng: Random, experiment: experiments.Table, image: Callable[[gues
 
 
 def hostile_guests(rng: Random, inputs: Inputs) -> Case:
-    experiment = experiments.valid(rng, inputs.links, (50, 100, 400))
+    experiment = experiments.valid(rng, (50, 100, 400))
     files = with_files(rng, experiment, lambda machine: guests.hostile_image(rng, machine))
-    return Case(long_run(files[FILE], rng.choice([20_000] * 19 + [300_000])), files)
+    return Case(long_run(rng, inputs, files[FILE], rng.choice([20_000] * 19 + [300_000])), files)
 
 
 def flat_images(rng: Random, inputs: Inputs) -> Case:
-    experiment = experiments.valid(rng, inputs.links)
+    experiment = experiments.valid(rng)
 
     def image(machine: guests.Machine) -> bytes:
         if rng.random() < 0.5:
@@ -79,47 +80,47 @@ def flat_images(rng: Random, inputs: Inputs) -> Case:
         return guests.random_image(rng, machine)
 
     files = with_files(rng, experiment, image)
-    return Case(some_words(rng, files[FILE]), files)
+    return Case(some_words(rng, inputs, files[FILE]), files)
 
 
 def elf_images(rng: Random, inputs: Inputs) -> Case:
-    experiment = experiments.valid(rng, inputs.links)
+    experiment = experiments.valid(rng)
     for guest in experiment["guest"]:
         guest["format"] = "elf"
     files = with_files(rng, experiment, lambda machine: images.hostile_elf(rng, inputs.elf_files))
-    return Case(some_words(rng, files[FILE]), files)
+    return Case(some_words(rng, inputs, files[FILE]), files)
 
 
 def changed_experiments(rng: Random, inputs: Inputs) -> Case:
-    experiment = experiments.valid(rng, True)
+    experiment = experiments.valid(rng)
     files = with_files(rng, experiment, lambda machine: b"\x6f\0\0\0")
     for _ in range(rng.choice([1, 1, 1, 2, 4])):
         experiments.change(rng, experiment)
     files[FILE] = experiments.text_of(experiment, rng.random() < 0.2).encode()
-    return Case(some_words(rng, files[FILE]), files)
+    return Case(some_words(rng, inputs, files[FILE]), files)
 
 
 def scrambled_experiments(rng: Random, inputs: Inputs) -> Case:
-    experiment = experiments.valid(rng, True)
+    experiment = experiments.valid(rng)
     files = with_files(rng, experiment, lambda machine: b"\x6f\0\0\0")
     files[FILE] = experiments.scramble(rng, files[FILE])
-    return Case(some_words(rng, files[FILE]), files)
+    return Case(some_words(rng, inputs, files[FILE]), files)
 
 
 def deep_experiments(rng: Random, inputs: Inputs) -> Case:
     text = experiments.deep(rng)
     if rng.random() < 0.3:
-        text = experiments.text_of(experiments.valid(rng, inputs.links)).encode() + text
+        text = experiments.text_of(experiments.valid(rng)).encode() + text
     return Case([b"plan", FILE.encode()], {FILE: text})
 
 
 def soups(rng: Random, inputs: Inputs) -> Case:
-    return Case(some_words(rng, b""), {FILE: experiments.soup(rng)})
+    return Case(some_words(rng, inputs, b""), {FILE: experiments.soup(rng)})
 
 
 def long_files(rng: Random, inputs: Inputs) -> Case:
     """Files at their limits and a byte beyond."""
-    experiment = experiments.valid(rng, inputs.links)
+    experiment = experiments.valid(rng)
     files = with_files(rng, experiment, lambda machine: b"\x6f\0\0\0")
     which = rng.randrange(3)
     more = rng.choice([-1, 0, 1])
@@ -131,7 +132,7 @@ def long_files(rng: Random, inputs: Inputs) -> Case:
         experiment.setdefault("disk", []).append({"guest": "g0", "sectors": 32_768, "base": 1, "image": "d9"})
         files[FILE] = experiments.text_of(experiment).encode()
         files["d9"] = bytes(16_777_216 + more)
-    return Case(some_words(rng, files[FILE]), files)
+    return Case(some_words(rng, inputs, files[FILE]), files)
 
 
 WORDS = [
@@ -142,7 +143,7 @@ WORDS = [
 
 
 def odd_words(rng: Random, inputs: Inputs) -> Case:
-    experiment = experiments.valid(rng, inputs.links)
+    experiment = experiments.valid(rng)
     files = with_files(rng, experiment, lambda machine: b"\x6f\0\0\0")
     words = [b"run", FILE.encode(), b"--host-ticks", b"4", b"--view", b"journal"] if rng.random() < 0.6 else [b"plan", FILE.encode()]
     for _ in range(rng.choice([0, 1, 1, 2, 5])):

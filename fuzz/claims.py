@@ -9,10 +9,13 @@ import oracle
 UNITS = 10_000_000
 SECONDS = 10.0
 
+VIEWS = [b"journal", b"events", b"traces", b"summary"]
+
 NUMBER = r"(?:0|[1-9][0-9]*)"
-KEY = r"(?:-|[!-~]{1,})"
+NAME = "[a-z0-9_-]{1,32}"
+KEY = r"[!-~]{1,32}"
 FILE = rf"(?:experiment|image {NUMBER}|disk {NUMBER})"
-WHY = "not-toml|missing|unknown|wrong-kind|range|twice|no-such-guest|nic-taken|nic-range|no-guest|no-slot|not-built"
+WHY = "not-toml|missing|unknown|wrong-kind|range|twice|no-such-guest|nic-taken|nic-range|no-guest|no-slot"
 ELF = rf"not-elf|truncated|wrong-kind|bad-segment {NUMBER}|outside-ram {NUMBER}|bad-entry"
 USAGE = "[a-z]+(?:-[a-z]+)*"
 
@@ -41,12 +44,17 @@ RECORD = re.compile(
 )
 HEAD = re.compile(rf"diecast 1 factor ({NUMBER}) slots ({NUMBER}) guests ({NUMBER}) host ({NUMBER})")
 QUANTUM = re.compile(rf"run ({NUMBER}) units ({NUMBER}) done ({NUMBER})")
+TRACES = re.compile(rf"traces guests {NUMBER} ticks {NUMBER}")
+GUEST = re.compile(rf"guest {NUMBER} {NAME}")
+SUMMARY = re.compile(rf"summary guests {NUMBER} ticks {NUMBER}")
+COUNTED = ["instr", "trap", "disk", "sent", "drop", "bad", "recv", "lost", "uart", "broken", "halt"]
+COUNTS = re.compile(rf"{NUMBER} {NAME} " + " ".join(f"{word} {NUMBER}" for word in COUNTED))
 PLAN = [
     re.compile(line)
     for line in [
         rf"plan factor {NUMBER} slots {NUMBER} guests {NUMBER}",
         rf"slot {NUMBER} need {NUMBER} have {NUMBER}",
-        rf"guest {NUMBER} [a-z0-9_-]{{1,32}} slot {NUMBER} rate {NUMBER}",
+        rf"guest {NUMBER} {NAME} slot {NUMBER} rate {NUMBER}",
         rf"least {NUMBER} slot {NUMBER}",
         "fits",
         rf"over {NUMBER} need {NUMBER} have {NUMBER}",
@@ -146,6 +154,25 @@ def journal_faults(lines: list[str], whole: bool, experiment: bytes) -> list[str
     return ["it has no end"] if whole else []
 
 
+def traces_faults(lines: list[str], whole: bool) -> list[str]:
+    """A head, for each guest its name and its records, and an end."""
+    bad = [line for line in lines[1:] if not GUEST.fullmatch(line) and not RECORD.fullmatch(line) and line != "end"]
+    return forms_faults(TRACES, lines, whole, bad)
+
+
+def summary_faults(lines: list[str], whole: bool) -> list[str]:
+    """A head, a line for each guest, and an end."""
+    bad = [line for line in lines[1:] if not COUNTS.fullmatch(line) and line != "end"]
+    return forms_faults(SUMMARY, lines, whole, bad)
+
+
+def forms_faults(head: re.Pattern, lines: list[str], whole: bool, bad: list[str]) -> list[str]:
+    if not head.fullmatch(lines[0]) or bad:
+        return [f"a line is {(bad or lines)[0][:200]!r}"]
+    ends = lines.count("end") == 1 and lines[-1] == "end"
+    return [] if ends or not whole else ["its end is not its last line"]
+
+
 def plan_faults(lines: list[str], status: int) -> list[str]:
     """Each line has a form of the plan, and the last says what the exit status does."""
     for line in lines:
@@ -168,7 +195,12 @@ def text_faults(words: list[bytes], experiment: bytes, ended: Ended) -> list[str
         return ["its text has no last line"]
     if not ended.whole:
         lines.pop()
-    return journal_faults(lines, ended.whole, experiment) if is_run(words) else plan_faults(lines, ended.status)
+    first = lines[0].split(" ")[0]
+    if first == "traces":
+        return traces_faults(lines, ended.whole)
+    if first == "summary":
+        return summary_faults(lines, ended.whole)
+    return plan_faults(lines, ended.status) if first == "plan" else journal_faults(lines, ended.whole, experiment)
 
 
 def is_plain(words: list[bytes]) -> bool:
@@ -176,16 +208,16 @@ def is_plain(words: list[bytes]) -> bool:
     if words == [b"plan", b"a.toml"]:
         return True
     number = words[3].decode("ascii", "replace") if len(words) == 6 else ""
-    right = words == [b"run", b"a.toml", b"--host-ticks", number.encode(), b"--view", b"journal"]
+    right = words[:3] == [b"run", b"a.toml", b"--host-ticks"] and words[4:5] == [b"--view"] and words[5] in VIEWS
     return right and re.fullmatch(NUMBER, number) is not None and int(number) <= 1_000_000
 
 
-def ending_faults(words: list[bytes], files: dict[str, bytes], links: bool, ended: Ended) -> list[str]:
+def ending_faults(words: list[bytes], files: dict[str, bytes], ended: Ended) -> list[str]:
     """It ended as docs/FORMATS.md says that it must, or for want of memory."""
     if not is_plain(words) or ended.status == 7:
         return []
     try:
-        status, line = oracle.ending(not is_run(words), files, links)
+        status, line = oracle.ending(not is_run(words), files)
     except oracle.Unsure:
         return []
     wanted = f"diecast: {line}\n".encode() if status else b""
@@ -194,14 +226,14 @@ def ending_faults(words: list[bytes], files: dict[str, bytes], links: bool, ende
     return [f"it ended with {ended.status} and {ended.msg[:200]!r}, and not with {status} and {wanted!r}"]
 
 
-def faults(words: list[bytes], files: dict[str, bytes], links: bool, ended: Ended) -> list[str]:
+def faults(words: list[bytes], files: dict[str, bytes], ended: Ended) -> list[str]:
     """What a run must not do and did."""
     experiment = files.get("a.toml", b"")
     if ended.stuck:
         return ["it did not end"]
     if ended.status < 0:
         return [f"signal {-ended.status} ended it"]
-    found = line_faults(ended) + text_faults(words, experiment, ended) + ending_faults(words, files, links, ended)
+    found = line_faults(ended) + text_faults(words, experiment, ended) + ending_faults(words, files, ended)
     if ended.seconds > SECONDS and units(words, experiment) <= UNITS:
         found.append(f"it took {ended.seconds:.1f} s of processor time")
     return found

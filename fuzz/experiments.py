@@ -16,14 +16,14 @@ TEXTS = ["", "a", "A", "g0", "g1", "elf", "flat", "a" * 32, "a" * 33, "x" * 255,
 NAMES = ["i0", "i1", "missing", ".", "folder", "/dev/null", "/dev/zero", "/dev/full", "/proc/self/mem", "i0/", "", "/", "a.toml", "loop"]
 
 
-def valid(rng: Random, links: bool, rates: tuple[int, ...] = (1, 7, 50, 100, 400)) -> Table:
+def valid(rng: Random, rates: tuple[int, ...] = (1, 7, 50, 100, 400)) -> Table:
     """A right experiment of a few guests, whose placement mostly fits. Its images are named i0, i1 and so on, its disks' d0, d1 and so on."""
     guests = []
     count = rng.choice([1, 1, 2, 2, 3, 4])
     for number in range(count):
         guest: Table = {"name": f"g{number}", "image": f"i{number}", "format": "flat", "ram": 4096 * rng.choice([1, 8, 16, 16, 32])}
         guest["rate"] = rng.choice(rates)
-        if links and rng.random() < 0.7:
+        if rng.random() < 0.6:
             guest["nics"] = rng.randrange(1, 5)
         guests.append(guest)
     factor = rng.choice([1, 2, 3, 10])

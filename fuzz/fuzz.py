@@ -16,7 +16,7 @@ from collections import Counter
 from pathlib import Path
 
 from cases import KINDS, Case, Inputs, case_of
-from claims import Ended, faults, units
+from claims import VIEWS, Ended, faults, units
 
 TOP = Path(__file__).resolve().parent.parent
 # A run is ended after this much processor time, and after this much time of any kind without output.
@@ -69,22 +69,22 @@ def lay_out(case: Case) -> None:
 
 
 class Program:
-    """The program, and whether it has nics and links."""
+    """The program, and the views that it has."""
 
     def __init__(self, path: Path) -> None:
         self.path = path
-        lay_out(Case([], {"a.toml": b"version=1\nfactor=1\nslot=[{capacity=1}]\nguest=[{name='a',image='i0',rate=1,nics=1}]\n"}))
-        self.links = run(path, [b"plan", b"a.toml"]).status == 0
+        words = [b"run", b"missing", b"--host-ticks", b"0", b"--view"]
+        self.views = [view for view in VIEWS if run(path, [*words, view]).status != 2]
 
     def faults_of(self, case: Case) -> tuple[Ended, list[str]]:
         """How a case ends, and what it did that it must not."""
         lay_out(case)
         ended = run(self.path, case.words)
-        found = faults(case.words, case.files, self.links, ended)
+        found = faults(case.words, case.files, ended)
         # A run that took too long may have had a busy machine: it is tried once more.
         if found and ended.seconds > 5:
             ended = run(self.path, case.words)
-            found = faults(case.words, case.files, self.links, ended)
+            found = faults(case.words, case.files, ended)
         return ended, found
 
     def differs(self, case: Case, ended: Ended) -> list[str]:
@@ -156,8 +156,8 @@ class Tally:
 def fuzz(path: Path, args: argparse.Namespace) -> int:
     began = time.monotonic()
     program = Program(path)
-    inputs = Inputs(program.links)
-    print(f"{path}, {'with' if program.links else 'without'} nics and links, from seed {args.seed}, {len(KINDS)} kinds of cases", flush=True)
+    inputs = Inputs(program.views)
+    print(f"{path}, with {len(program.views)} views, from seed {args.seed}, {len(KINDS)} kinds of cases", flush=True)
     tally = Tally()
     seeds = [args.one] if args.one is not None else range(args.seed, args.seed + args.count)
     for seed in seeds:

@@ -131,7 +131,7 @@ def check_values(document: dict) -> None:
         left += [(v, depth + 1) for v in inner]
 
 
-def read(text: bytes, links: bool) -> dict:
+def read(text: bytes) -> dict:
     """The experiment that a file says."""
     try:
         experiment = document_of(text)
@@ -150,8 +150,6 @@ def read(text: bytes, links: bool) -> dict:
     taken: set[tuple[int, int]] = set()
     for index, link in enumerate(experiment.get("link", [])):
         check_link(experiment, link, index, names, taken)
-    if not links and (experiment.get("link") or any(guest.get("nics", 0) for guest in experiment["guest"])):
-        raise fault("not-built", "top", 0, "")
     return experiment
 
 
@@ -231,13 +229,13 @@ def load_fault(experiment: dict, files: dict[str, bytes]) -> tuple[int, str] | N
     return None
 
 
-def ending(plan: bool, files: dict[str, bytes], links: bool) -> tuple[int, str]:
+def ending(plan: bool, files: dict[str, bytes]) -> tuple[int, str]:
     """The exit status of a run or a plan of `a.toml`, and its line without the program's name."""
     text = content("a.toml", files, EXPERIMENT_LIMIT)
     if isinstance(text, str):
         return (4 if text == "too long" else 5), f"{text}: experiment"
     try:
-        experiment = read(text, links)
+        experiment = read(text)
     except Fault as why:
         return 3, f"experiment: {why}"
     over = overload(experiment)

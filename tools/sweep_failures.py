@@ -115,16 +115,15 @@ def sweep(program: Path, library: Path, command: Command) -> int:
     return bad
 
 
-def commands(pair: str, generated: bool) -> list[Command]:
-    """The commands. The guests of the pair have nics and a link where the program runs those."""
+def commands(generated: bool) -> list[Command]:
+    """The commands, one of a generated load where the program has those."""
     elf = ONE_GUEST.replace('format = "flat"', 'format = "elf"')
     over = ONE_GUEST.replace("rate = 2", "rate = 3")
-    machine = Machine(65536, 1, 1 if "nics" in pair else 0)
-    files = {"pair": friendly_image(machine), "disk": bytes(range(256)) * 8}
+    files = {"pair": friendly_image(Machine(65536, 1, 1)), "disk": bytes(range(256)) * 8}
     found = [
         Command("one guest", run_of(4), {"a.toml": ONE_GUEST.encode(), "a.bin": JUMP}),
         Command("one guest from an ELF file", run_of(4), {"a.toml": elf.encode(), "a.bin": hand_made()}),
-        Command("a pair with a disk each" + (", linked" if "nics" in pair else ""), run_of(40), {"a.toml": pair.encode(), **files}),
+        Command("a linked pair with a disk each", run_of(40), {"a.toml": PAIR.encode(), **files}),
         Command("a plan that is over", ["plan", "a.toml"], {"a.toml": over.encode()}),
     ]
     if generated:
@@ -141,11 +140,8 @@ def main() -> int:
         os.chdir(room)
         library = Path(room, "fail_nth.so")
         subprocess.run(["cc", "-O2", "-Wall", "-shared", "-fPIC", "-o", library, TOP / "tools/fail_nth.c"], check=True)
-        Path("a.toml").write_text(PAIR)
-        linked = run(program, library, Command("", ["plan", "a.toml"], {}), "none", 0).status == 0
         generated = run(program, library, Command("", ["gen", "2", "--host-ticks", "0"], {}), "none", 0).status == 0
-        pair = PAIR if linked else "".join(line for line in PAIR.replace(", nics = 1", "").splitlines(True) if not line.startswith("link"))
-        bad = sum(sweep(program, library, command) for command in commands(pair, generated))
+        bad = sum(sweep(program, library, command) for command in commands(generated))
         os.chdir("/")
     print(f"{bad} failed")
     return 1 if bad else 0

@@ -11,6 +11,7 @@ use watched::Watched;
 mod cases;
 mod counting;
 mod devices;
+mod failing;
 mod images;
 mod streams;
 mod watched;

@@ -9,7 +9,7 @@ use super::dozer::Dozer;
 use super::steady::Steady;
 use host_journal::{Head, JournalKeep};
 use lookahead_core::{Core, Wire};
-use slot_sched::Bench;
+use slot_sched::{Bench, TickFault};
 use std::alloc::Global;
 use std::cell::Cell;
 use std::rc::Rc;
@@ -142,6 +142,22 @@ run 2 units 3 done 5\n\
 slot 1\n\
 run 1 units 3 done 6\n";
     let out = sleepers_print(rt.alloc(), &[0, 1, 0], &[4, 3], 1, 2)?;
+    assert_eq!(rt; out.bytes(), wanted.as_slice());
+    Ok(())
+}
+
+/// A host tick whose third quantum cannot be put says so, and the bench has failed.
+#[test]
+fn a_host_tick_stops_at_a_failed_put(rt: HostRuntime) -> Result<(), Fail> {
+    let alloc = rt.alloc();
+    let core = three_nodes(alloc, 1, 1, 1, false)?;
+    let mut bench = on_two_slots(alloc, core, &[0, 0, 0], &[3, 3], 1)?;
+    let mut keep = keeper(alloc, 2, 3)?;
+    let mut out = MemSink::new(alloc, 1000)?;
+    out.fail_put(5, 0)?;
+    let ended = bench.host_tick(&mut keep, &mut out);
+    assert!(rt; matches!(ended, Err(TickFault::KeepFailed)) && bench.failed());
+    let wanted = b"host 1\nslot 0\nrun 0 units 1 done 1\nrun 1 units 1 done 1\n";
     assert_eq!(rt; out.bytes(), wanted.as_slice());
     Ok(())
 }

@@ -69,6 +69,27 @@ disk = [{ guest = 'a', sectors = 1, image = 'lost', base = 1 }]
     line: "diecast: read fault: disk 0\n",
 };
 
+/// A guest that jumps in place, each of whose ticks takes two host ticks.
+const JUMPS: &str = "version = 1
+factor = 2
+slot = [{ capacity = 1 }]
+guest = [{ name = 'a', image = 'jump', format = 'flat', ram = 4096, rate = 2, slot = 0 }]
+";
+
+/// What is printed of it before the line of the third quantum.
+const STOPPED: &str = "diecast 1 factor 2 slots 1 guests 1 host 1000
+host 1
+slot 0
+run 0 units 1 done 0
+host 2
+slot 0
+run 0 units 1 done 1
+0 0 instr 80000000 0000006f
+0 0 instr 80000000 0000006f
+host 3
+slot 0
+";
+
 /// A list of one box.
 fn list_of(alloc: Global, device: Box<dyn Device>, kind: Kind) -> Result<Vec<Box<dyn Device>>, Fail>
     requires { ⟦<Box<dyn Device> as Device>⟧.state device ≡ Blank kind }
@@ -221,5 +242,48 @@ fn a_lost_disk_and_no_boxes(rt: HostRuntime) -> Result<(), Fail> {
         Vec::new(alloc),
     )?;
     assert!(rt; lost);
+    Ok(())
+}
+
+/// Whether a run of 1000 host ticks ends with a write fault where its twelfth put fails, and has printed eleven lines.
+fn stops(
+    alloc: Global,
+    clints: Vec<Box<dyn Device>>,
+    uarts: Vec<Box<dyn Device>>,
+    blks: Vec<Box<dyn Device>>,
+    nets: Vec<Box<dyn Device>>,
+) -> Result<bool, Fail>
+    requires clints { All (λ s. s ≡ Blank kind.Clint) (map (⟦<Box<dyn Device> as Device>⟧.state) clints.items) }
+    requires uarts { All (λ s. s ≡ Blank kind.Uart) (map (⟦<Box<dyn Device> as Device>⟧.state) uarts.items) }
+    requires blks { All (λ s. s ≡ Blank kind.Blk) (map (⟦<Box<dyn Device> as Device>⟧.state) blks.items) }
+    requires nets { All (λ s. s ≡ Blank kind.Net) (map (⟦<Box<dyn Device> as Device>⟧.state) nets.items) }
+{
+    let words = owned(alloc, "run a.toml --host-ticks 1000 --view journal")?;
+    let mut files = Watched::new(alloc, JUMPS)?;
+    let mut out = MemSink::new(alloc, 2000)?;
+    let mut msg = MemSink::new(alloc, 200)?;
+    out.fail_put(12, 0)?;
+    let stock = Stock {
+        clints,
+        uarts,
+        blks,
+        nets,
+    };
+    let status = diecast(alloc, &words, &mut files, &mut out, &mut msg, stock);
+    Ok(code_of(&status) == 6 && out.bytes() == STOPPED.as_bytes())
+}
+
+/// No guest runs ahead of what is printed: its Clint has begun two ticks when the line of the third quantum is put.
+#[test]
+fn no_guest_runs_ahead(rt: HostRuntime) -> Result<(), Fail> {
+    let alloc = rt.alloc();
+    let clint = Rc::new(alloc, Cell::new(0))?;
+    let clints = counted_clint(alloc, &clint)?;
+    let uart = Box::new(alloc, Uart::new(alloc))?;
+    let uarts = list_of(alloc, uart, Kind::Uart)?;
+    let right = stops(alloc, clints, uarts, Vec::new(alloc), Vec::new(alloc))?;
+    assert!(rt; right);
+    // The last digit counts the begins.
+    assert_eq!(rt; clint.get() % 10, 2);
     Ok(())
 }
