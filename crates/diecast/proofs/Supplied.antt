@@ -1,5 +1,5 @@
 -- The boxes of the program are enough for every experiment.
-use Rattle.std.proofs.Common.{◌≡◌, ℕ, ◌≤◌, List, [], ◌∷◌, All, map, Ok, length, ◌∙◌, subst, arith}
+use Rattle.std.proofs.Common.{◌≡◌, ℕ, ◌≤◌, List, [], ◌∷◌, All, map, Ok, length, subst, arith}
 use Rattle.std.specs.List.{sum}
 use Rattle.std.proofs.Math.Path.{fun_ext}
 use Rattle.dev_face.specs.States.{DevState, Blank}
@@ -46,10 +46,9 @@ counted clints uarts blks nets p q r t kind.Blk = r
 counted clints uarts blks nets p q r t kind.Net = t
 
 -- what is said of the boxes as they are counted is said of so many
-pub of_boxes : {A : Type 0} {w : World} {s : Status} (clints uarts blks nets : List A) → Ends w s → w.stock ≡ counts (clints ∷ uarts ∷ blks ∷ nets ∷ [])
+pub of_boxes : {A : Type 0} (w : World) {s : Status} (clints uarts blks nets : List A) → Ends (record w { stock = counts (clints ∷ uarts ∷ blks ∷ nets ∷ []) }) s
     → length clints ≡ 32 → length uarts ≡ 32 → length blks ≡ 64 → length nets ≡ 128 → Ends (record w { stock = boxes }) s
-of_boxes {A} {w} {s} clints uarts blks nets ends same p q r t =
-    subst (λ (n : Kind → ℕ). Ends (record w { stock = n }) s) (same ∙ fun_ext (counted clints uarts blks nets p q r t)) ends
+of_boxes w {s} clints uarts blks nets ends p q r t = subst (λ (n : Kind → ℕ). Ends (record w { stock = n }) s) (fun_ext (counted clints uarts blks nets p q r t)) ends
 
 -- no command ends for want of a device
 pub supplied : AreFew → (w : World) {s : Status} (k : Kind) (wanted had : ℕ) → Ends (record w { stock = boxes }) s → s ≡ Build (build.NoDevice k wanted had) → ⊥

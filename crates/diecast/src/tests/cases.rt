@@ -807,8 +807,8 @@ version = 1
 factor = 1
 slot = [{ capacity = 200 }]
 guest = [
-  { name = 'a', image = 'send', format = 'flat', ram = 4096, rate = 100, nics = 1 },
-  { name = 'b', image = 'receive', format = 'flat', ram = 4096, rate = 100, nics = 1 },
+  { name = 'a', image = 'sends-frame', format = 'flat', ram = 4096, rate = 100, nics = 1 },
+  { name = 'b', image = 'takes-frame', format = 'flat', ram = 4096, rate = 100, nics = 1 },
 ]
 link = [{ a = 'a', b = 'b', bandwidth = 100, delay = 4, queue = 4 }]
 --
@@ -820,7 +820,7 @@ run a.toml --host-ticks 1 --view journal|0|devices|0|2
 version = 1
 factor = 1
 slot = [{ capacity = 100 }]
-guest = [{ name = 'a', image = 'send-60', format = 'flat', ram = 4096, rate = 100, nics = 1 }]
+guest = [{ name = 'a', image = 'sends-frame-60', format = 'flat', ram = 4096, rate = 100, nics = 1 }]
 --
 0 0 drop 0 60
 --
@@ -829,7 +829,7 @@ run a.toml --host-ticks 1 --view journal|0|devices|0|2
 version = 1
 factor = 1
 slot = [{ capacity = 100 }]
-guest = [{ name = 'a', image = 'send-8', format = 'flat', ram = 4096, rate = 100, nics = 1 }]
+guest = [{ name = 'a', image = 'sends-frame-8', format = 'flat', ram = 4096, rate = 100, nics = 1 }]
 --
 0 0 bad 0 8
 --
