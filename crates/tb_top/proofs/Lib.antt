@@ -1,8 +1,8 @@
 pub mod Claims
 mod Common
+pub mod Faults
 mod Generated
 mod Loading
-pub mod Faults
 mod Ranges
 mod Shown
 mod Slots
