@@ -1,0 +1,21 @@
+#!/usr/bin/env bash
+# Prints what a step and a frame of the generated load of 32 guests cost. The summary says how many there were: instructions, and frames that
+# were sent or received. Needs rt. Arguments: guests (32) and host ticks (1000).
+set -eu
+guests=${1:-32}
+host_ticks=${2:-1000}
+here=$(cd "$(dirname "$0")" && pwd)
+. "$here/../compare.sh"
+build_diecast
+
+cd "$work"
+TIMEFORMAT='%3U %3S'
+least=
+for _ in 1 2 3 4 5; do
+    took=$({ time "$diecast" gen "$guests" --host-ticks "$host_ticks" > said.txt; } 2>&1 | awk '{ printf "%d", 1000 * ($1 + $2) }')
+    [ -f first.txt ] || cp said.txt first.txt
+    cmp said.txt first.txt
+    if [ -z "$least" ] || [ "$took" -lt "$least" ]; then least=$took; fi
+done
+awk -v ms="$least" '/ instr / { for (i = 1; i < NF; i++) { if ($i == "instr") steps += $(i + 1); if ($i == "sent" || $i == "recv") frames += $(i + 1) } }
+    END { printf "%d ms: %d instructions, %.1f ns each; %d frames sent or received, %.2f us each, with all else in it\n", ms, steps, 1e6 * ms / steps, frames, 1e3 * ms / frames }' said.txt
