@@ -108,8 +108,9 @@ fn run_asked<F: Files, O: Sink, D: Device>(
     requires ready { IsReady asked.now }
     requires few { host_ticks ≤ 1000000 }
     requires stock { IsStock D.state (items_of stock) }
-    ensures ends { (words : List (List ℕ)) (o : Origin) → IsAsked words (F.held files.old) o (Task.Run host_ticks view) (without_room asked.now.experiment) →
-        Brings o asked.now.images → Ends (world words F.Files files.old files.new O.Sink out.old out.new (counts (items_of stock))) result }
+    ensures ends { (words : List (List ℕ)) (o : Origin) →
+        IsAsked words (F.held files.old) o (Task.Run host_ticks view) (without_room asked.now.experiment) → Brings o asked.now.images →
+        Ends (world words F.Files files.old files.new O.Sink out.old out.new (counts (items_of stock))) result }
     ensures unfailed { result ≢ Status.WriteFault → O.faults out.new ≡ O.faults out.old }
 {
     match check(&asked.experiment, &asked.placement) {
