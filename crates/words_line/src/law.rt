@@ -3,8 +3,10 @@ ghost use Rattle.std.specs.Prelude.{◌≡◌, ℕ, ◌≤◌, List, [], ◌∷�
 ghost use Rattle.std.specs.Fmt.{decimal};
 ghost use Rattle.trace_rec.specs.declared.view.View.TheVariants.{Journal, Summary};
 ghost use Rattle.words_line.specs.Parses.{places};
+ghost use Rattle.words_line.specs.Ranges.{IsInRange};
 ghost use Rattle.words_line.specs.Usual.{IsPlain};
 ghost use Rattle.words_line.specs.Words.{command};
+ghost use Rattle.words_line.specs.declared.command.Command.{Command};
 ghost use Rattle.words_line.specs.declared.command.Command.TheVariants.{Run, Plan, Gen};
 
 /// What words mean in their usual orders: a command, what it is about, and its options behind them, or
@@ -24,4 +26,9 @@ pub fn usual_words()
         → command (codes "run" ∷ file ∷ codes "--host-ticks" ∷ decimal n ∷ []) ≡ Ok (Run file n Summary) }
     ensures plan { (file : List ℕ) → IsPlain file → 1 ≤ length file → command (codes "plan" ∷ file ∷ []) ≡ Ok (Plan file) }
     ensures load { (n t : ℕ) → 2 ≤ n → n ≤ 32 → t ≤ 1000000 → command (codes "gen" ∷ decimal n ∷ codes "--host-ticks" ∷ decimal t ∷ []) ≡ Ok (Gen n t) }
+{}
+
+/// The numbers of every command are in their ranges: at most 1,000,000 host ticks, and 2 to 32 guests of a load.
+pub fn commands_are_in_range()
+    ensures ranges { (words : List (List ℕ)) (c : Command) → command words ≡ Ok c → IsInRange c }
 {}

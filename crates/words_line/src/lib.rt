@@ -12,7 +12,7 @@ mod word_fault;
 mod words_err;
 
 pub use command::Command;
-pub use law::usual_words;
+pub use law::{commands_are_in_range, usual_words};
 pub use name::Name2;
 pub use read::read_words;
 pub use word_fault::WordFault;
