@@ -161,10 +161,17 @@ def odd_words(rng: Random, inputs: Inputs) -> Case:
     return Case([b"40" if word == b"1000000" else word for word in words], files)
 
 
+def long_runs(rng: Random, inputs: Inputs) -> Case:
+    """Guests that use their devices rightly and then jump in place, for as many units as have a limit of time."""
+    experiment = experiments.valid(rng, (50, 100, 400))
+    files = with_files(rng, experiment, guests.friendly_image)
+    return Case(long_run(rng, inputs, files[FILE], claims.UNITS), files)
+
+
 # Each kind of case, and how often it comes.
-KINDS: list[tuple[int, Callable[[Random, Inputs], Case]]] = [
-    (30, hostile_guests), (8, flat_images), (10, elf_images), (20, changed_experiments), (15, scrambled_experiments), (4, soups),
-    (2, deep_experiments), (8, odd_words), (1, long_files),
+KINDS: list[tuple[float, Callable[[Random, Inputs], Case]]] = [
+    (31, hostile_guests), (8, flat_images), (10, elf_images), (20, changed_experiments), (15, scrambled_experiments), (4, soups),
+    (2, deep_experiments), (8, odd_words), (1, long_files), (0.3, long_runs),
 ]
 
 

@@ -207,9 +207,10 @@ def is_plain(words: list[bytes]) -> bool:
     """Whether the words are those of a right run or plan of the experiment."""
     if words == [b"plan", b"a.toml"]:
         return True
-    number = words[3].decode("ascii", "replace") if len(words) == 6 else ""
-    right = words[:3] == [b"run", b"a.toml", b"--host-ticks"] and words[4:5] == [b"--view"] and words[5] in VIEWS
-    return right and re.fullmatch(NUMBER, number) is not None and int(number) <= 1_000_000
+    if len(words) != 6 or words[:3] != [b"run", b"a.toml", b"--host-ticks"] or words[4] != b"--view" or words[5] not in VIEWS:
+        return False
+    number = words[3].decode("ascii", "replace")
+    return re.fullmatch(NUMBER, number) is not None and int(number) <= 1_000_000
 
 
 def ending_faults(words: list[bytes], files: dict[str, bytes], ended: Ended) -> list[str]:
