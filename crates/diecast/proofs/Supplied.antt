@@ -1,26 +1,31 @@
 -- The boxes of the program are enough for every experiment.
-use Rattle.std.proofs.Common.{◌≡◌, ℕ, ◌≤◌, List, [], ◌∷◌, All, map, Ok, length, ◌∙◌, subst, arith}
+use Rattle.std.proofs.Common.{◌≡◌, ℕ, ◌≤◌, List, [], ◌∷◌, All, map, Ok, inl, inr, length, sym, subst, arith}
 use Rattle.std.specs.List.{sum}
+use Rattle.std.proofs.lemmas.List.Sums.{sum-map, sum_by-le}
 use Rattle.std.proofs.Math.Path.{fun_ext}
 use Rattle.dev_face.specs.States.{DevState, Blank}
 use Rattle.dev_face.specs.declared.kind.Kind.{Kind}
 use Rattle.dev_face.specs.declared.kind.Kind.TheVariants as kind
 use Rattle.exp_file.specs.Reading.{reading}
+use Rattle.exp_file.specs.WellFormed.{IsWellFormed}
 use Rattle.exp_file.specs.declared.experiment.Experiment.{Experiment}
+use Rattle.exp_file.specs.declared.guest_spec.GuestSpec.{GuestSpec}
+use Rattle.gen_load.specs.Loads.{ring}
 use Rattle.bench_build.specs.Stocks.{needs, Suffices, IsStock, counts}
 use Rattle.bench_build.specs.declared.build_fault.BuildFault.TheVariants as build
 use Rattle.tb_top.specs.Ends.{Ends}
 use Rattle.tb_top.specs.World.{World}
 use Rattle.tb_top.specs.declared.status.Status.{Status}
 use Rattle.tb_top.specs.declared.status.Status.TheVariants.{Build}
-use Rattle.tb_top.proofs.Claims.{short_of}
+use Rattle.tb_top.proofs.Claims.{IsGiven, short_of}
 use Rattle.diecast.specs.Boxes.{boxes}
 
--- an experiment that a file says has 32 guests, 64 disks and 128 nics at most
+-- an experiment that a file says has 32 guests, 64 disks and 128 nics at most, and a load of 2 to 32 guests is well formed
 pub record AreFew : Type 0 where
   pub guests : (b : List ℕ) (e : Experiment) → reading b ≡ Ok e → length e.guests.items ≤ 32
   pub disks : (b : List ℕ) (e : Experiment) → reading b ≡ Ok e → length e.disks.items ≤ 64
   pub nics : (b : List ℕ) (e : Experiment) → reading b ≡ Ok e → sum (map (λ g. g.nics) e.guests.items) ≤ 128
+  pub loads : (n : ℕ) → 2 ≤ n → n ≤ 32 → IsWellFormed (ring n)
 
 enough : AreFew → (b : List ℕ) (e : Experiment) → reading b ≡ Ok e → (k : Kind) → needs e k ≤ boxes k
 enough few b e read kind.Clint = few.guests b e read
@@ -28,8 +33,21 @@ enough few b e read kind.Uart = few.guests b e read
 enough few b e read kind.Blk = few.disks b e read
 enough few b e read kind.Net = few.nics b e read
 
-pub boxes_suffice : AreFew → (b : List ℕ) (e : Experiment) → reading b ≡ Ok e → Suffices e boxes
-boxes_suffice few b e read = record { of = enough few b e read }
+-- the nics of guests that have four each at most
+four_each : (e : Experiment) → IsWellFormed e → sum (map (λ g. g.nics) e.guests.items) ≤ 128
+four_each e w =
+    omega (arith, w.guests_high, sum-map (λ (g : GuestSpec). g.nics) e.guests.items, sum_by-le (λ (g : GuestSpec). g.nics) 4 e.guests.items (λ k d lt. (w.guests k d lt).nics))
+
+enough_formed : (e : Experiment) → IsWellFormed e → (k : Kind) → needs e k ≤ boxes k
+enough_formed e w kind.Clint = w.guests_high
+enough_formed e w kind.Uart = w.guests_high
+enough_formed e w kind.Blk = w.disks_high
+enough_formed e w kind.Net = four_each e w
+
+-- the boxes are enough for every experiment that is given
+pub boxes_suffice : AreFew → (e : Experiment) → IsGiven e → Suffices e boxes
+boxes_suffice few e (inl (b, read)) = record { of = enough few b e read }
+boxes_suffice few e (inr (n, low, high, same)) = record { of = enough_formed e (subst (λ (x : Experiment). IsWellFormed x) (sym same) (few.loads n low high)) }
 
 -- the lists of the program are a stock with so many boxes of each kind
 pub is_stock : {A : Type 0} (state : A → DevState) (clints uarts blks nets : List A) → All (λ s. s ≡ Blank kind.Clint) (map state clints) → All (λ s. s ≡ Blank kind.Uart) (map state uarts)
@@ -46,13 +64,12 @@ counted clints uarts blks nets p q r t kind.Blk = r
 counted clints uarts blks nets p q r t kind.Net = t
 
 -- what is said of the boxes as they are counted is said of so many
-pub of_boxes : {A : Type 0} {w : World} {s : Status} (clints uarts blks nets : List A) → Ends w s → w.stock ≡ counts (clints ∷ uarts ∷ blks ∷ nets ∷ [])
+pub of_boxes : {A : Type 0} (w : World) {s : Status} (clints uarts blks nets : List A) → Ends (record w { stock = counts (clints ∷ uarts ∷ blks ∷ nets ∷ []) }) s
     → length clints ≡ 32 → length uarts ≡ 32 → length blks ≡ 64 → length nets ≡ 128 → Ends (record w { stock = boxes }) s
-of_boxes {A} {w} {s} clints uarts blks nets ends same p q r t =
-    subst (λ (n : Kind → ℕ). Ends (record w { stock = n }) s) (same ∙ fun_ext (counted clints uarts blks nets p q r t)) ends
+of_boxes w {s} clints uarts blks nets ends p q r t = subst (λ (n : Kind → ℕ). Ends (record w { stock = n }) s) (fun_ext (counted clints uarts blks nets p q r t)) ends
 
 -- no command ends for want of a device
 pub supplied : AreFew → (w : World) {s : Status} (k : Kind) (wanted had : ℕ) → Ends (record w { stock = boxes }) s → s ≡ Build (build.NoDevice k wanted had) → ⊥
 supplied few w k wanted had ends same =
-    let (b, e, says, short) = short_of k wanted had (subst (λ z. Ends (record w { stock = boxes }) z) same ends) in
-    omega (arith, (boxes_suffice few b e says).of k, short.wanted, short.had_is, short.short)
+    let (e, is, short) = short_of k wanted had (subst (λ z. Ends (record w { stock = boxes }) z) same ends) in
+    omega (arith, (boxes_suffice few e is).of k, short.wanted, short.had_is, short.short)

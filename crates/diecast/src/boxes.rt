@@ -14,6 +14,7 @@ use blk_dev::Blk;
 use clint_dev::Clint;
 use dev_face::{Device, Kind};
 use exp_file::{disks_are_few, guests_are_few, nics_are_few};
+use gen_load::loads_are_right;
 use net_dev::Nic;
 use std::alloc::Global;
 use tb_base::NoMemory;
@@ -98,5 +99,6 @@ pub(crate) fn run_with<F: Files, O: Sink, M: Sink>(
     guests_are_few();
     disks_are_few();
     nics_are_few();
+    loads_are_right();
     Ok(diecast(alloc, words, files, out, msg, stock))
 }

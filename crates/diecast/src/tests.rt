@@ -13,11 +13,15 @@ mod counting;
 mod devices;
 mod images;
 mod streams;
+mod views;
 mod watched;
 
-/// These words, each with its own memory.
+/// These words, each with its own memory. There are none in an empty text.
 pub(crate) fn owned(alloc: Global, words: &str) -> Result<Vec<String>, Fail> {
     let mut owned = Vec::new(alloc);
+    if words.is_empty() {
+        return Ok(owned);
+    }
     for word in words.split(' ') {
         owned.push(String::from_str(alloc, word)?)?;
     }
@@ -28,7 +32,7 @@ pub(crate) fn owned(alloc: Global, words: &str) -> Result<Vec<String>, Fail> {
 fn ends_so(alloc: Global, case: &Case<'_>, room: usize) -> Result<bool, Fail> {
     let words = owned(alloc, case.words)?;
     let mut files = Watched::new(alloc, case.text)?;
-    let mut out = MemSink::new(alloc, 20_000)?;
+    let mut out = MemSink::new(alloc, 30_000)?;
     let mut msg = MemSink::new(alloc, room)?;
     out.fail_put(case.put, 3)?;
     let status = run_with(alloc, &words, &mut files, &mut out, &mut msg)?;

@@ -101,18 +101,24 @@ impl<O: Sink, H: Held> Keep<O> for GuestKeep<H> {
 }
 
 impl<O: Sink, H: Held> Show<O> for GuestKeep<H> {
-    ghost use Rattle.std.proofs.Common.{ap};
+    ghost use Rattle.std.specs.Prelude.{[]};
+    ghost use Rattle.std.proofs.Common.{ap, refl};
+    ghost use Rattle.tb_io.proofs.Parts.{part_whole};
     ghost use Rattle.host_journal.specs.GuestKeepers.{head_of, text_of, IsEmpty};
     ghost use Rattle.host_journal.specs.Guests.{guests_of};
-    ghost use Rattle.host_journal.specs.Parts.{nothing_part};
 
     ghost text = { text_of };
 
+    // all is put at last
+    ghost shown = { λ keep es. [] };
+
     ghost is_fresh = { IsEmpty };
 
-    ghost part = { λ keep before now es gathers. nothing_part before now (text_of keep es) gathers.nothing };
+    ghost part = { λ keep before now es gathers. part_whole before now [] gathers.nothing };
 
     ghost same = { λ a b same. ap (guests_of H.title H.shown) same };
+
+    ghost same_shown = { λ a b same. refl };
 
     fn start(&mut self, out: &mut O) -> Result<(), KeepErr> {
         let _out = out;

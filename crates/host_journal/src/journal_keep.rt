@@ -119,11 +119,16 @@ impl<O: Sink> Show<O> for JournalKeep {
 
     ghost text = { text_of };
 
+    // each line is put when its entry comes
+    ghost shown = { text_of };
+
     ghost is_fresh = { λ keep. has_failed keep ≡ false };
 
     ghost part = { λ keep before now es stands. stands_part (has_failed keep) before now (text_of keep es) stands };
 
     ghost same = { λ a b same. ap (λ (h : Head × View). entries_text h.1 h.0) same };
+
+    ghost same_shown = { λ a b same. ap (λ (h : Head × View). entries_text h.1 h.0) same };
 
     fn start(&mut self, out: &mut O) -> Result<(), KeepErr>
         ensures stands { has_failed self.old ≡ false → StandsFor self.new (O.taken out.old) (O.taken out.new) [] }

@@ -14,6 +14,9 @@ pub trait Show<O: Sink>: Keep<O> {
     /// The text of a list of entries, which has the entry of the end where the run came to it.
     ghost text: { Self → List Entry → List ℕ };
 
+    /// What a sink has taken while these entries are kept, where nothing failed.
+    ghost shown: { Self → List Entry → List ℕ };
+
     /// The keeper was just made.
     ghost is_fresh: { Self → Type 0 };
 
@@ -32,9 +35,11 @@ pub trait Show<O: Sink>: Keep<O> {
             → TakesPart before (O.taken out.new) (text self.old (es ++ End ∷ [])) }
         ensures cause { KeepCause (O.faults out.old) (O.faults out.new) result };
 
-    /// At any time the sink has taken a first part of the text of the entries kept.
-    ghost part: { (keep : Self) (before now : Option (List ℕ)) (es : List Entry) → Self.keeps keep before now es → TakesPart before now (text keep es) };
+    /// At any time the sink has taken a first part of what is shown of the entries kept.
+    ghost part: { (keep : Self) (before now : Option (List ℕ)) (es : List Entry) → Self.keeps keep before now es → TakesPart before now (shown keep es) };
 
-    /// The text needs of the keeper what no call changes.
+    /// The text needs of the keeper what no call changes, and so does what is shown.
     ghost same: { (a b : Self) → Self.head a ≡ Self.head b → text a ≡ text b };
+
+    ghost same_shown: { (a b : Self) → Self.head a ≡ Self.head b → shown a ≡ shown b };
 }

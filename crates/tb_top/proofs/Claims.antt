@@ -1,84 +1,76 @@
 -- What follows from how a command ends.
-use Rattle.tb_top.proofs.Common.{◌≡◌, ◌≢◌, ℕ, ◌<◌, ◌≤◌, ◌⊎◌, true, List, [], length, get_or, Option, Some, None, IfSome, Ok, Err, inl, inr, refl, sym, ap, ◌∙◌, subst, arith, decimal, Rose, part_whole, DiskSpec, Experiment, Fits, IsFirstOverload, placed, Overload, Entry, start, IsComplete, Kind, IsTaken, Fills, Inputs, Suffices, IsShort, ImageFault, DiskSize, NoDevice, Ends, no_memory, no_experiment, ended, Refuses, IsAsked, TaskEnds, Asks, MayRun, IsTold, IsPartPut, FilesServed, OutServed, Completes, IsPlanned, Plans, IsRead, IsTooLong, IsContent, Says, experiment_limit, image_limit, disk_limit, World, Quiet, TheExperiment, ImageOf, DiskOf, Status, Done, Over, Usage, Refused, Build, TooLong, ReadFault, WriteFault, Memory, Task, Run, Plan}
-use Rattle.std.proofs.lemmas.Fmt.{decimal_injective}
+use Rattle.tb_top.proofs.Common.{◌≡◌, ◌≢◌, ℕ, ◌<◌, ◌≤◌, ◌⊎◌, true, List, length, Option, Some, None, IfSome, Ok, Err, inl, inr, refl, sym, ap, ◌∙◌, subst, arith, Rose, part_whole, DiskSpec, Experiment, Fits, IsFirstOverload, placed, Overload, View, Entry, start, IsComplete, Kind, IsTaken, Fills, Inputs, Suffices, IsShort, ImageFault, DiskSize, NoDevice, command, Missed, Ends, no_memory, no_experiment, ended, Refuses, IsAsked, TaskEnds, Asks, IsRight, MayRun, IsTold, IsToldOf, IsPartPut, FilesServed, OutServed, Completes, IsPlanned, Origin, File, Load, ring, origin_of, task_of, AreFor, IsFrom, Plans, IsRead, IsTooLong, IsContent, Says, experiment_limit, image_limit, disk_limit, World, Quiet, TheExperiment, ImageOf, DiskOf, Status, Done, Over, Usage, Refused, Build, TooLong, ReadFault, WriteFault, Memory, Task, Run, Plan}
 use Rattle.exp_file.specs.Reading.{reading}
+use Rattle.gen_load.proofs.Fitting.{fits}
 use Rattle.host_journal.specs.Printed.{count_of, up_to_tick}
 use Rattle.plan_text.specs.Texts.{plan_text}
 use Rattle.slot_sched.proofs.Telling.{tells, kept_up, legal_up_to, past_complete}
 use Rattle.bench_build.specs.Setups.{run_rules}
 use Rattle.tb_top.specs.Headline.{IsUndisturbed, IsJudged, IsTraced, IsPrinted, Headline}
 use Rattle.tb_top.specs.Lines.{is_made}
-use Rattle.tb_top.specs.Words.{IsRun, IsPlan, IsCommand, Gives}
-use Rattle.tb_top.specs.declared.words.WordFault.{WordFault}
-use Rattle.tb_top.specs.declared.words.WordFault.TheVariants.{NotWords, EmptyName, BadNumber}
+use Rattle.tb_top.proofs.Ranges.{few_guests}
+use Rattle.words_line.specs.declared.word_fault.WordFault.{WordFault}
 
--- The words give one task with one file, and no fault then.
-abbrev word : ℕ → List (List ℕ) → List ℕ
-word i words = get_or words i []
+-- The words give one task with one origin, and no fault then.
+one_command : (words : List (List ℕ)) (o q : Origin) (t u : Task) → AreFor words o t → AreFor words q u → (o ≡ q) × (t ≡ u)
+one_command words o q t u c d =
+    let read = c.read in
+    let also = d.read in
+    let same : c.given ≡ d.given = cc (read, also) in
+    (sym c.origin ∙ ap origin_of same ∙ d.origin, sym c.task_is ∙ ap task_of same ∙ d.task_is)
 
-no_run : (words : List (List ℕ)) (f g n : List ℕ) → IsPlan words f → IsRun words g n → ⊥
-no_run words f g n plan run = omega (arith, ap length (sym plan ∙ run))
-
-one_command : (words : List (List ℕ)) (f g : List ℕ) (t u : Task) → IsCommand words f t → IsCommand words g u → (f ≡ g) × (t ≡ u)
-one_command words f g (Run m) (Run n) c d =
-    (ap (word 1) (sym c.form ∙ d.form), ap (λ (k : ℕ). Run k) (decimal_injective m n (omega (arith, c.limit)) (omega (arith, d.limit)) (ap (word 3) (sym c.form ∙ d.form))))
-one_command words f g Plan Plan c d = (ap (word 1) (sym c.form ∙ d.form), refl)
-one_command words f g Plan (Run n) c d = absurd (no_run words f g (decimal n) c.form d.form)
-one_command words f g (Run m) Plan c d = absurd (no_run words g f (decimal m) d.form c.form)
-
-named : (f : List ℕ) → 1 ≤ length f → f ≡ [] → ⊥
-named f some none = omega (arith, some, ap length none)
-
-no_fault : (words : List (List ℕ)) (f : List ℕ) (t : Task) (x : WordFault) → IsCommand words f t → Gives words (Err x) → ⊥
-no_fault words f (Run n) NotWords c none = none.no_run f (decimal n) c.form
-no_fault words f Plan NotWords c none = none.no_plan f c.form
-no_fault words f (Run n) EmptyName c (inl (number, form)) = named f c.named (ap (word 1) (sym c.form ∙ form))
-no_fault words f (Run n) EmptyName c (inr form) = no_run words [] f (decimal n) form c.form
-no_fault words f Plan EmptyName c (inl (number, form)) = no_run words f [] number c.form form
-no_fault words f Plan EmptyName c (inr form) = named f c.named (ap (word 1) (sym c.form ∙ form))
-no_fault words f (Run n) BadNumber c (name, number, bad) = bad.no_decimal n c.limit (ap (word 3) (sym bad.form ∙ c.form))
-no_fault words f Plan BadNumber c (name, number, bad) = no_run words f name number c.form bad.form
+no_fault : (words : List (List ℕ)) (o : Origin) (t : Task) (x : WordFault) → AreFor words o t → command words ≡ Err x → ⊥
+no_fault words o t x c bad = let read = c.read in cc (read, bad)
 
 -- what holds of what is told
 of_told : (P : List ℕ → Type 0) (o : Option (List ℕ)) (t : List ℕ) → o ≡ Some t → IfSome o P → P t
 of_told P o t e h = subst (λ z. IfSome z P) e h
 
-no_longer : (o : Option (List ℕ)) (limit : ℕ) (t : List ℕ) → o ≡ Some t → length t ≤ limit → IsTooLong o limit → ⊥
-no_longer o limit t told short long = omega (arith, short, of_told (λ b. limit < length b) o t told long)
+-- the experiment that was read is the one that is told
+told_same : (held : List ℕ → Option (List ℕ)) (o : Origin) (e f : Experiment) → IsToldOf held o e → IsFrom held o f → f ≡ e
+told_same held (File name) e f told from =
+    let bytes : from.bytes ≡ told.bytes = of_told (λ z. from.bytes ≡ z) (held name) told.bytes told.told_is from.read.held in
+    let read : reading told.bytes ≡ Ok f = subst (λ (b : List ℕ). Says b f) bytes from.holds in
+    let said = told.holds in
+    cc (read, said)
+told_same held (Load n) e f told from = from ∙ sym told
 
--- Of a task whose file is told.
-module _ (w : World) (t : Task) (e : Experiment) (asks : Asks w.words w.files.held t e) where
-  told_held : (name : List ℕ) (u : Task) → IsCommand w.words name u → w.files.held name ≡ Some asks.bytes
-  told_held name u c = ap w.files.held (one_command w.words name asks.name u t c asks.command).0 ∙ asks.told
+not_too_long : (o : Option (List ℕ)) (limit : ℕ) (P : List ℕ → Type 0) → IsTold o limit P → IsTooLong o limit → ⊥
+not_too_long o limit P told long = omega (arith, told.short, of_told (λ b. limit < length b) o told.bytes told.told_is long)
 
-  same_bytes : (name : List ℕ) (u : Task) (b : List ℕ) → IsCommand w.words name u → IsRead (w.files.held name) experiment_limit b → b ≡ asks.bytes
-  same_bytes name u b c read = of_told (λ z. b ≡ z) (w.files.held name) asks.bytes (told_held name u c) read.held
+-- what was read of a file that is told has what holds of the told bytes
+read_told : (o : Option (List ℕ)) (limit : ℕ) (P : List ℕ → Type 0) (b : List ℕ) → IsTold o limit P → IsRead o limit b → P b
+read_told o limit P b told read = subst P (sym (of_told (λ t. b ≡ t) o told.bytes told.told_is read.held)) told.holds
 
-  -- the experiment is the one that was read
-  came : (s : Status) (u : Task) (f : Experiment) → IsAsked w.words w.files.held u f → TaskEnds w u f s → TaskEnds w t e s
-  came s u f k ends =
-      let read : reading asks.bytes ≡ Ok f = subst (λ (b : List ℕ). Says b f) (same_bytes k.name u k.bytes k.command k.read) k.says in
-      let said = asks.says in
-      let same : f ≡ e = cc (read, said) in
-      subst (λ (v : Task). TaskEnds w v e s) (one_command w.words k.name asks.name u t k.command asks.command).1 (subst (λ (x : Experiment). TaskEnds w u x s) same ends)
+-- Of a task with an experiment that is told.
+module _ (w : World) (o : Origin) (t : Task) (e : Experiment) (asks : Asks w.words w.files.held o t e) where
+  -- a file that the words name is told
+  told_of : (name : List ℕ) (u : Task) → AreFor w.words (File name) u → IsTold (w.files.held name) experiment_limit (λ b. Says b e)
+  told_of name u c = subst (λ (q : Origin). IsToldOf w.files.held q e) (one_command w.words o (File name) t u asks.command c).0 asks.told
+
+  came : (s : Status) (q : Origin) (u : Task) (f : Experiment) → IsAsked w.words w.files.held q u f → TaskEnds w q u f s → TaskEnds w o t e s
+  came s q u f k ends =
+      let one = one_command w.words q o u t k.command asks.command in
+      let same : f ≡ e = told_same w.files.held o e f asks.told (subst (λ (p : Origin). IsFrom w.files.held p f) one.0 k.from) in
+      subst (λ (p : Origin). TaskEnds w p t e s) one.0 (subst (λ (v : Task). TaskEnds w q v e s) one.1 (subst (λ (x : Experiment). TaskEnds w q u x s) same ends))
 
   -- so there is one, but where the read of its file failed
   module _ (P : Status → Type 0) (lost : Rose w.files.faults w.files_after.faults → P (ReadFault TheExperiment)) where
     refused : (s : Status) → Refuses w.words w.files w.files_after s → P s
-    refused (Usage f) gives = absurd (no_fault w.words asks.name t f asks.command gives)
-    refused (TooLong TheExperiment) h = absurd (no_longer (w.files.held h.name) experiment_limit asks.bytes (told_held h.name h.task h.command) asks.limit h.holds)
+    refused (Usage f) gives = absurd (no_fault w.words o t f asks.command gives)
+    refused (TooLong TheExperiment) h = absurd (not_too_long (w.files.held h.name) experiment_limit (λ b. Says b e) (told_of h.name h.task h.command) h.holds)
     refused (ReadFault TheExperiment) h = lost h.holds.rose
     refused (Refused f) h =
-        let bad : reading asks.bytes ≡ Err f = subst (λ (b : List ℕ). reading b ≡ Err f) (same_bytes h.name h.task h.holds.bytes h.command h.holds.read) h.holds.holds in
-        let said = asks.says in
+        let said = read_told (w.files.held h.name) experiment_limit (λ b. Says b e) h.holds.bytes (told_of h.name h.task h.command) h.holds.read in
+        let bad = h.holds.holds in
         absurd (cc (bad, said))
     refused _ h = absurd h
 
     -- what holds of every end of the task holds of how the command ends
-    of_task : (Quiet w → P Memory) → ((s : Status) → TaskEnds w t e s → P s) → {s : Status} → Ends w s → P s
+    of_task : (Quiet w → P Memory) → ((s : Status) → TaskEnds w o t e s → P s) → {s : Status} → Ends w s → P s
     of_task memory task (no_memory quiet) = memory quiet
     of_task memory task {s} (no_experiment quiet h) = refused s h
-    of_task memory task {s} (ended u f k h) = task s (came s u f k h)
+    of_task memory task {s} (ended q u f k h) = task s (came s q u f k h)
 
 -- A run whose placement fits, whose images and disks are told and right, and for which there are devices enough, is done, but where a file, memory or the
 -- output failed.
@@ -88,66 +80,69 @@ IsHurt w s = (IsUndisturbed s → ⊥) × (FilesServed w → OutServed w → s �
 no_overload : (e : Experiment) (p : List ℕ) (o : Overload) → Fits e p → IsFirstOverload e p o → ⊥
 no_overload e p o fits over = omega (arith, fits o.slot over.slot, over.needs, over.has, over.over)
 
--- what was read of a file that is told has what holds of the told bytes
-read_told : (o : Option (List ℕ)) (limit : ℕ) (P : List ℕ → Type 0) (b : List ℕ) → IsTold o limit P → IsRead o limit b → P b
-read_told o limit P b told read = subst P (sym (of_told (λ t. b ≡ t) o told.bytes told.told_is read.held)) told.holds
-
-not_too_long : (o : Option (List ℕ)) (limit : ℕ) (P : List ℕ → Type 0) → IsTold o limit P → IsTooLong o limit → ⊥
-not_too_long o limit P told long = no_longer o limit told.bytes told.told_is told.short long
-
 content_fills : (held : List ℕ → Option (List ℕ)) (d : DiskSpec) (o : Option (List ℕ)) (b : List ℕ)
     → ((name : List ℕ) → o ≡ Some name → IsTold (held name) disk_limit (Fills d)) → IsContent held o b → Fills d b
 content_fills held d None b told read = omega (arith, ap length read)
 content_fills held d (Some name) b told read = read_told (held name) disk_limit (Fills d) b (told name refl) read
 
+-- a run of an experiment that is right fits
+it_fits : (words : List (List ℕ)) (held : List ℕ → Option (List ℕ)) (o : Origin) (t : Task) (e : Experiment) → AreFor words o t → IsToldOf held o e → IsRight held o e → Fits e (placed e)
+it_fits words held (File name) t e c told right = right.fits
+it_fits words held (Load n) t e c told right = subst (λ (x : Experiment). Fits x (placed x)) (sym told) (fits n (few_guests words n t c).1)
+
+-- what a run reads is taken, but where a file failed
+unmissed : (w : World) (o : Origin) (e : Experiment) → IsRight w.files.held o e → (s : Status) → Missed w.files w.files_after o e s → IsHurt w s
+unmissed w (Load n) e right s h = absurd h
+unmissed w (File name) e right (Build (ImageFault i fault)) k =
+    let taken = read_told (w.files.held k.thing.image) image_limit (IsTaken k.thing) k.why.bytes (right.images i k.thing k.at) k.why.read in
+    let taken_is = taken.is in
+    let bad = k.why.holds in
+    absurd (cc (taken_is, bad))
+unmissed w (File name) e right (Build (DiskSize j len room)) k =
+    let fills = content_fills w.files.held k.thing k.thing.image k.why.bytes (λ name. right.disks j k.thing name k.at) k.why.read in
+    absurd (omega (arith, fills, k.why.len_is, k.why.room_is, k.why.over))
+unmissed w (File name) e right (TooLong (ImageOf i)) k = absurd (not_too_long (w.files.held k.thing.image) image_limit (IsTaken k.thing) (right.images i k.thing k.at) k.why)
+unmissed w (File name) e right (TooLong (DiskOf j)) k = absurd (not_too_long (w.files.held k.why.0) disk_limit (Fills k.thing) (right.disks j k.thing k.why.0 k.at k.why.1) k.why.2)
+unmissed w (File name) e right (ReadFault (ImageOf i)) k = (λ calm. calm, λ files out. absurd (files k.why.rose))
+unmissed w (File name) e right (ReadFault (DiskOf j)) k = (λ calm. calm, λ files out. absurd (files k.why.2.rose))
+unmissed w (File name) e right _ h = absurd h
+
 module _ (w : World) (e : Experiment) (may : MayRun w.words w.files.held e) (enough : Suffices e w.stock) where
-  run_done : (s : Status) → TaskEnds w (Run may.host_ticks) e s → (s ≡ Done) ⊎ IsHurt w s
+  run_done : (s : Status) → TaskEnds w may.origin (Run may.host_ticks may.view) e s → (s ≡ Done) ⊎ IsHurt w s
   run_done Done h = inl refl
   run_done WriteFault h = inr (λ calm. calm, λ files out. absurd (out h.0))
   run_done Memory h = inr (λ calm. calm, λ files out. refl)
-  run_done (Over slot need have) h = absurd (no_overload e (placed e) _ may.fits h.0)
+  run_done (Over slot need have) h = absurd (no_overload e (placed e) _ (it_fits w.words w.files.held may.origin (Run may.host_ticks may.view) e may.asks.command may.asks.told may.right) h.0)
   run_done (Build (NoDevice k wanted had)) (quiet, fits, l) = absurd (omega (arith, enough.of k, l.holds.wanted, l.holds.had_is, l.holds.short))
-  run_done (Build (ImageFault i fault)) (quiet, fits, k) =
-      let taken = read_told (w.files.held k.thing.image) image_limit (IsTaken k.thing) k.why.bytes (may.images i k.thing k.at) k.why.read in
-      let right = taken.is in
-      let bad = k.why.holds in
-      absurd (cc (right, bad))
-  run_done (Build (DiskSize j len room)) (quiet, fits, k) =
-      let fills = content_fills w.files.held k.thing k.thing.image k.why.bytes (λ name. may.disks j k.thing name k.at) k.why.read in
-      absurd (omega (arith, fills, k.why.len_is, k.why.room_is, k.why.over))
-  run_done (TooLong (ImageOf i)) (quiet, fits, k) = absurd (not_too_long (w.files.held k.thing.image) image_limit (IsTaken k.thing) (may.images i k.thing k.at) k.why)
-  run_done (TooLong (DiskOf j)) (quiet, fits, k) = absurd (not_too_long (w.files.held k.why.0) disk_limit (Fills k.thing) (may.disks j k.thing k.why.0 k.at k.why.1) k.why.2)
-  run_done (ReadFault (ImageOf i)) h = inr (λ calm. calm, λ files out. absurd (files h.2.why.rose))
-  run_done (ReadFault (DiskOf j)) h = inr (λ calm. calm, λ files out. absurd (files h.2.why.2.rose))
-  run_done _ h = absurd h.2
+  run_done s h = inr (unmissed w may.origin e may.right s h.2)
 
   done_or_hurt : {s : Status} → Ends w s → (s ≡ Done) ⊎ IsHurt w s
   done_or_hurt ends =
-      of_task w (Run may.host_ticks) e may.asks (λ s. (s ≡ Done) ⊎ IsHurt w s) (λ rose. inr (λ calm. calm, λ files out. absurd (files rose))) (λ quiet. inr (λ calm. calm, λ files out. refl)) run_done ends
+      of_task w may.origin (Run may.host_ticks may.view) e may.asks (λ s. (s ≡ Done) ⊎ IsHurt w s) (λ rose. inr (λ calm. calm, λ files out. absurd (files rose))) (λ quiet. inr (λ calm. calm, λ files out. refl)) run_done ends
 
 pub completes : {w : World} {s : Status} → Ends w s → Completes w s
 completes {w} ends = λ e may enough files out. elim (done_or_hurt w e may enough ends) [ inl done ↦ inl done | inr hurt ↦ inr (hurt.1 files out) ]
 
 -- A plan is put.
-plans : (w : World) (e : Experiment) (s : Status) → TaskEnds w Plan e s → Plans e (placed e) w.out w.out_after s
-plans w e Done h = h
-plans w e (Over slot need have) h = h
-plans w e WriteFault h = h
-plans w e Memory h = inr h
-plans w e _ h = absurd h
+plans : (w : World) (o : Origin) (e : Experiment) (s : Status) → TaskEnds w o Plan e s → Plans e (placed e) w.out w.out_after s
+plans w o e Done h = h
+plans w o e (Over slot need have) h = h
+plans w o e WriteFault h = h
+plans w o e Memory h = inr h
+plans w o e _ h = absurd h
 
 pub planned : {w : World} {s : Status} → Ends w s → IsPlanned w s
-planned {w} ends = λ e asks files. of_task w Plan e asks (λ s. Plans e (placed e) w.out w.out_after s) (λ rose. absurd (files rose)) (λ quiet. inl quiet) (plans w e) ends
+planned {w} ends = λ e a files. of_task w a.origin Plan e a.asks (λ s. Plans e (placed e) w.out w.out_after s) (λ rose. absurd (files rose)) (λ quiet. inl quiet) (plans w a.origin e) ends
 
 -- The placement is accepted where it fits.
-judged : (w : World) (t : Task) (e : Experiment) (s : Status) → TaskEnds w t e s → IsUndisturbed s → IsJudged e s
-judged w t e Done h calm = record { accepted = λ fit o same. cc same; refused = λ over. absurd (over h.0) }
-judged w t e (Over slot need have) h calm =
+judged : (w : World) (o : Origin) (t : Task) (e : Experiment) (s : Status) → TaskEnds w o t e s → IsUndisturbed s → IsJudged e s
+judged w o t e Done h calm = record { accepted = λ fit p same. cc same; refused = λ over. absurd (over h.0) }
+judged w o t e (Over slot need have) h calm =
     record { accepted = λ fits p same. no_overload e (placed e) _ fits h.0; refused = λ none. (record { slot = slot; need = need; have = have }, h.0, refl) }
-judged w t e WriteFault h calm = absurd calm
-judged w t e Memory h calm = absurd calm
-judged w (Run n) e s h calm = record { accepted = λ fit o same. cc same; refused = λ over. absurd (over h.1) }
-judged w Plan e s h calm = absurd h
+judged w o t e WriteFault h calm = absurd calm
+judged w o t e Memory h calm = absurd calm
+judged w o (Run n view) e s h calm = record { accepted = λ fit p same. cc same; refused = λ over. absurd (over h.1) }
+judged w o Plan e s h calm = absurd h
 
 -- What a complete journal tells of a guest up to the end of a host tick.
 traced : (e : Experiment) (i : Inputs) (n : ℕ) (j : List Entry) → IsComplete (run_rules e (placed e) i n) j
@@ -163,42 +158,42 @@ traced e i n j complete t few g lt =
       paid = told.clock;
     }
 
-printed : (w : World) (n : ℕ) (e : Experiment) → TaskEnds w (Run n) e Done → IsPrinted w n e
-printed w n e (fits, run) =
-    let (head, head_is, (journal, complete, text)) = run.holds in
-    record { inputs = run.inputs; loaded = run.loaded; head = head; head_is = head_is; journal = journal; text = text; schedule = complete; traces = traced e run.inputs n journal complete }
+printed : (w : World) (o : Origin) (n : ℕ) (view : View) (e : Experiment) → TaskEnds w o (Run n view) e Done → IsPrinted w o n view e
+printed w o n view e (fits, run) =
+    let (head, head_is, (journal, complete, taken)) = run.holds in
+    record { inputs = run.inputs; loaded = run.loaded; head = head; head_is = head_is; journal = journal; taken = taken; schedule = complete; traces = traced e run.inputs n journal complete }
 
 -- What was put where memory or the output failed.
 cut_short : {w : World} {s : Status} → Ends w s → (s ≡ Memory) ⊎ (s ≡ WriteFault) → Quiet w ⊎ IsPartPut w
 cut_short (no_memory quiet) cut = inl quiet
 cut_short (no_experiment quiet h) cut = inl quiet
-cut_short {w} (ended t e k h) (inl memory) = inr (record { task = t; experiment = e; asked = k; part = subst (TaskEnds w t e) memory h })
-cut_short {w} (ended t e k h) (inr failed) = inr (record { task = t; experiment = e; asked = k; part = (subst (TaskEnds w t e) failed h).1 })
+cut_short {w} (ended o t e k h) (inl memory) = inr (record { origin = o; task = t; experiment = e; asked = k; part = subst (TaskEnds w o t e) memory h })
+cut_short {w} (ended o t e k h) (inr failed) = inr (record { origin = o; task = t; experiment = e; asked = k; part = (subst (TaskEnds w o t e) failed h).1 })
 
 pub headline : {w : World} {s : Status} → Ends w s → (s ≢ WriteFault → w.out_after.faults ≡ w.out.faults) → Headline w s
 headline {w} ends unfailed = record {
-  accepted = λ t e asks. of_task w t e asks (λ s. IsUndisturbed s → IsJudged e s) (λ rose calm. absurd calm) (λ quiet calm. absurd calm) (judged w t e) ends;
+  accepted = λ o t e asks. of_task w o t e asks (λ s. IsUndisturbed s → IsJudged e s) (λ rose calm. absurd calm) (λ quiet calm. absurd calm) (judged w o t e) ends;
   runs = λ e may enough calm. elim (done_or_hurt w e may enough ends) [ inl done ↦ done | inr hurt ↦ absurd (hurt.0 calm) ];
-  printed = λ n e asks. of_task w (Run n) e asks (λ s. s ≡ Done → IsPrinted w n e) (λ rose same. absurd (cc same)) (λ quiet same. absurd (cc same))
-      (λ s h same. printed w n e (subst (TaskEnds w (Run n) e) same h)) ends;
+  printed = λ o n view e asks. of_task w o (Run n view) e asks (λ s. s ≡ Done → IsPrinted w o n view e) (λ rose same. absurd (cc same)) (λ quiet same. absurd (cc same))
+      (λ s h same. printed w o n view e (subst (TaskEnds w o (Run n view) e) same h)) ends;
   cut_short = cut_short ends;
   unfailed = unfailed;
 }
 
 -- What is said of a status whose line is made is said of want of memory too.
-task_memory : {w : World} (t : Task) (e : Experiment) (s : Status) → is_made s ≡ true → IsAsked w.words w.files.held t e → TaskEnds w t e s → Ends w Memory
-task_memory (Run n) e (Over slot need have) made k (over, quiet) = no_memory quiet
-task_memory {w} Plan e (Over slot need have) made k (over, (l, least, takes)) = ended Plan e k (l, least, part_whole w.out.taken w.out_after.taken (plan_text e (placed e) l) takes)
-task_memory t e Done made k h = absurd (cc made)
-task_memory t e WriteFault made k h = absurd (cc made)
-task_memory t e Memory made k h = absurd (cc made)
-task_memory (Run n) e s made k h = no_memory h.0
-task_memory Plan e s made k h = absurd h
+task_memory : {w : World} (o : Origin) (t : Task) (e : Experiment) (s : Status) → is_made s ≡ true → IsAsked w.words w.files.held o t e → TaskEnds w o t e s → Ends w Memory
+task_memory o (Run n view) e (Over slot need have) made k (over, quiet) = no_memory quiet
+task_memory {w} o Plan e (Over slot need have) made k (over, (l, least, takes)) = ended o Plan e k (l, least, part_whole w.out.taken w.out_after.taken (plan_text e (placed e) l) takes)
+task_memory o t e Done made k h = absurd (cc made)
+task_memory o t e WriteFault made k h = absurd (cc made)
+task_memory o t e Memory made k h = absurd (cc made)
+task_memory o (Run n view) e s made k h = no_memory h.0
+task_memory o Plan e s made k h = absurd h
 
 ends_memory : {w : World} {s : Status} → is_made s ≡ true → Ends w s → Ends w Memory
 ends_memory made (no_memory quiet) = no_memory quiet
 ends_memory made (no_experiment quiet h) = no_memory quiet
-ends_memory {w} {s} made (ended t e k h) = task_memory t e s made k h
+ends_memory {w} {s} made (ended o t e k h) = task_memory o t e s made k h
 
 -- the status of the command, or want of memory for its line
 pub ends_told : {w : World} {r s : Status} → Ends w r → (s ≡ r) ⊎ ((s ≡ Memory) × (is_made r ≡ true)) → Ends w s
@@ -210,8 +205,26 @@ pub unfailed_told : {r s : Status} {A : Type 0} → (r ≢ WriteFault → A) →
 unfailed_told unfailed (inl same) other = unfailed (λ fault. other (same ∙ fault))
 unfailed_told unfailed (inr (memory, made)) other = unfailed (λ fault. cc (subst (λ (z : Status). is_made z ≡ true) fault made))
 
--- where a device is wanting, it is so of an experiment that a file says
-pub short_of : {w : World} (k : Kind) (wanted had : ℕ) → Ends w (Build (NoDevice k wanted had)) → (b : List ℕ) × (e : Experiment) × Says b e × IsShort e w.stock (NoDevice k wanted had)
+-- an experiment that a file says, or a load of 2 to 32 guests
+abbrev pub IsGiven : Experiment → Type 0
+IsGiven e = ((b : List ℕ) × Says b e) ⊎ ((n : ℕ) × (2 ≤ n) × (n ≤ 32) × (e ≡ ring n))
+
+load_given : (words : List (List ℕ)) (n : ℕ) (t : Task) (e : Experiment) → AreFor words (Load n) t → e ≡ ring n → IsGiven e
+load_given words n t e c same = let (low, high) = few_guests words n t c in inr (n, low, high, same)
+
+read_given : (words : List (List ℕ)) (held : List ℕ → Option (List ℕ)) (o : Origin) (t : Task) (e : Experiment) → IsAsked words held o t e → IsGiven e
+read_given words held (File name) t e k = inl (k.from.bytes, k.from.holds)
+read_given words held (Load n) t e k = load_given words n t e k.command k.from
+
+told_given : (words : List (List ℕ)) (held : List ℕ → Option (List ℕ)) (o : Origin) (t : Task) (e : Experiment) → Asks words held o t e → IsGiven e
+told_given words held (File name) t e k = inl (k.told.bytes, k.told.holds)
+told_given words held (Load n) t e k = load_given words n t e k.command k.told
+
+pub run_given : {words : List (List ℕ)} {held : List ℕ → Option (List ℕ)} {e : Experiment} → MayRun words held e → IsGiven e
+run_given {words} {held} {e} may = told_given words held may.origin (Run may.host_ticks may.view) e may.asks
+
+-- where a device is wanting, it is so of an experiment that is given
+pub short_of : {w : World} (k : Kind) (wanted had : ℕ) → Ends w (Build (NoDevice k wanted had)) → (e : Experiment) × IsGiven e × IsShort e w.stock (NoDevice k wanted had)
 short_of k wanted had (no_experiment quiet h) = absurd h
-short_of k wanted had (ended Plan e asked h) = absurd h
-short_of k wanted had (ended (Run n) e asked h) = (asked.bytes, e, asked.says, h.2.holds)
+short_of k wanted had (ended o Plan e asked h) = absurd h
+short_of {w} k wanted had (ended o (Run n view) e asked h) = (e, read_given w.words w.files.held o (Run n view) e asked, h.2.holds)

@@ -1,4 +1,9 @@
 pub mod Claims
 mod Common
-mod Loading
 pub mod Faults
+mod Generated
+mod Loading
+mod Ranges
+mod Shown
+mod Slots
+mod Taken

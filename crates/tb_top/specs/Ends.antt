@@ -1,6 +1,7 @@
 -- How a command may end, and what stands then.
 use Rattle.std.specs.Prelude.{◌≡◌, ℕ, ◌≤◌, ◌⊎◌, List, length, Option, Some, Err, slice_get}
 use Rattle.tb_io.specs.Causes.{Rose}
+use Rattle.trace_rec.specs.declared.view.View.{View}
 use Rattle.exp_file.specs.Reading.{reading}
 use Rattle.exp_file.specs.declared.disk_spec.DiskSpec.{DiskSpec}
 use Rattle.exp_file.specs.declared.experiment.Experiment.{Experiment}
@@ -13,73 +14,73 @@ use Rattle.bench_build.specs.Stocks.{Suffices}
 use Rattle.tb_top.specs.declared.status.FileId.TheVariants as file
 use Rattle.tb_top.specs.declared.status.Status.{Status}
 use Rattle.tb_top.specs.declared.status.Status.TheVariants.{Done, Overload, Usage, Experiment as Refused, TooLong, ReadFault, WriteFault, Memory}
-use Rattle.tb_top.specs.declared.words.Task.{Task}
-use Rattle.tb_top.specs.declared.words.Task.TheVariants.{Run, Plan}
+use Rattle.gen_load.specs.Loads.{ring}
+use Rattle.words_line.specs.Words.{command}
+use Rattle.tb_top.specs.declared.task.Task.{Task}
+use Rattle.tb_top.specs.declared.task.Task.TheVariants.{Run, Plan}
 use Rattle.tb_top.specs.Benches.{Unbuilt, PutsRun, PutsRunPart}
+use Rattle.tb_top.specs.Origins.{Origin, File, Load, AreFor, IsFrom}
 use Rattle.tb_top.specs.Plans.{Plans}
-use Rattle.tb_top.specs.Reads.{IsRead, HasRead, IsTooLong, FailedAt, Says, experiment_limit, image_limit, disk_limit}
-use Rattle.tb_top.specs.Words.{Gives, IsCommand}
+use Rattle.tb_top.specs.Reads.{HasRead, IsTooLong, FailedAt, Says, experiment_limit, image_limit, disk_limit}
 use Rattle.tb_top.specs.World.{FilesSeen, World, Quiet}
 
 -- the words ask for some task with the experiment in a file, and this holds of its name
 pub record Names (words : List (List ℕ)) (P : List ℕ → Type 0) : Type 0 where
   pub name : List ℕ
   pub task : Task
-  pub command : IsCommand words name task
+  pub command : AreFor words (File name) task
   pub holds : P name
 
 -- what a status says where there is no experiment: the words are refused, or their file is too long, or its read failed, or it is refused
 abbrev pub Refuses : List (List ℕ) → FilesSeen → FilesSeen → Status → Type 0
-Refuses words old new (Usage f) = Gives words (Err f)
+Refuses words old new (Usage f) = command words ≡ Err f
 Refuses words old new (TooLong file.Experiment) = Names words (λ name. IsTooLong (old.held name) experiment_limit)
 Refuses words old new (ReadFault file.Experiment) = Names words (FailedAt old new)
 Refuses words old new (Refused f) = Names words (λ name. HasRead (old.held name) experiment_limit (λ b. reading b ≡ Err f))
 Refuses words old new _ = ⊥
 
--- the words ask for this task, and the bytes that were read of their file say this experiment
-pub record IsAsked (words : List (List ℕ)) (held : List ℕ → Option (List ℕ)) (task : Task) (e : Experiment) : Type 0 where
-  pub name : List ℕ
-  pub bytes : List ℕ
-  pub command : IsCommand words name task
-  pub read : IsRead (held name) experiment_limit bytes
-  pub says : Says bytes e
+-- the words ask for this task with an experiment of this origin, and it is this one
+pub record IsAsked (words : List (List ℕ)) (held : List ℕ → Option (List ℕ)) (o : Origin) (task : Task) (e : Experiment) : Type 0 where
+  pub command : AreFor words o task
+  pub from : IsFrom held o e
 
--- out has taken all of a task: the text of a complete legal journal of the run, or the plan
-abbrev pub PutsTask : World → Task → Experiment → Type 0
-PutsTask w (Run n) e = PutsRun w n e
-PutsTask w Plan e = PutsPlan e (placed e) w.out.taken w.out_after.taken
+-- out has taken all of a task: the text of a complete legal journal of the run in its view, or the plan
+abbrev pub PutsTask : World → Origin → Task → Experiment → Type 0
+PutsTask w o (Run n view) e = PutsRun w o n view e
+PutsTask w o Plan e = PutsPlan e (placed e) w.out.taken w.out_after.taken
 
 -- or a prefix: of the text of a legal journal of a run whose placement fits, or of the plan
-abbrev pub PutsTaskPart : World → Task → Experiment → Type 0
-PutsTaskPart w (Run n) e = Fits e (placed e) × PutsRunPart w n e
-PutsTaskPart w Plan e = PutsPlanPart e (placed e) w.out.taken w.out_after.taken
+abbrev pub PutsTaskPart : World → Origin → Task → Experiment → Type 0
+PutsTaskPart w o (Run n view) e = Fits e (placed e) × PutsRunPart w o n view e
+PutsTaskPart w o Plan e = PutsPlanPart e (placed e) w.out.taken w.out_after.taken
 
 -- what out has taken where the placement does not fit: nothing of a run, and the plan
 abbrev pub PutsOver : World → Task → Experiment → Type 0
-PutsOver w (Run n) e = Quiet w
+PutsOver w (Run n view) e = Quiet w
 PutsOver w Plan e = PutsPlan e (placed e) w.out.taken w.out_after.taken
 
 -- what a status says of a task with an experiment
-abbrev pub TaskEnds : World → Task → Experiment → Status → Type 0
-TaskEnds w task e Done = Fits e (placed e) × PutsTask w task e
-TaskEnds w task e (Overload slot need have) = IsFirstOverload e (placed e) (record { slot = slot; need = need; have = have }) × PutsOver w task e
-TaskEnds w task e WriteFault = Rose w.out.faults w.out_after.faults × PutsTaskPart w task e
-TaskEnds w task e Memory = PutsTaskPart w task e
-TaskEnds w (Run n) e s = Quiet w × Fits e (placed e) × Unbuilt w.files w.files_after w.stock e s
-TaskEnds w Plan e s = ⊥
+abbrev pub TaskEnds : World → Origin → Task → Experiment → Status → Type 0
+TaskEnds w o task e Done = Fits e (placed e) × PutsTask w o task e
+TaskEnds w o task e (Overload slot need have) = IsFirstOverload e (placed e) (record { slot = slot; need = need; have = have }) × PutsOver w task e
+TaskEnds w o task e WriteFault = Rose w.out.faults w.out_after.faults × PutsTaskPart w o task e
+TaskEnds w o task e Memory = PutsTaskPart w o task e
+TaskEnds w o (Run n view) e s = Quiet w × Fits e (placed e) × Unbuilt w.files w.files_after w.stock o e s
+TaskEnds w o Plan e s = ⊥
 
 -- what a status says: nothing was put, and memory ran out, or there is no experiment; or the words ask for an experiment, and so the task with it ended
 pub data Ends (w : World) : Status → Type 0 where
   no_memory : Quiet w → Ends w Memory
   no_experiment : {s : Status} → Quiet w → Refuses w.words w.files w.files_after s → Ends w s
-  ended : {s : Status} (task : Task) (e : Experiment) → IsAsked w.words w.files.held task e → TaskEnds w task e s → Ends w s
+  ended : {s : Status} (o : Origin) (task : Task) (e : Experiment) → IsAsked w.words w.files.held o task e → TaskEnds w o task e s → Ends w s
 
 -- out has taken a prefix of what the words ask for
 pub record IsPartPut (w : World) : Type 0 where
+  pub origin : Origin
   pub task : Task
   pub experiment : Experiment
-  pub asked : IsAsked w.words w.files.held task experiment
-  pub part : PutsTaskPart w task experiment
+  pub asked : IsAsked w.words w.files.held origin task experiment
+  pub part : PutsTaskPart w origin task experiment
 
 -- a file is told, within its limit, and this holds of its bytes
 pub record IsTold (told : Option (List ℕ)) (limit : ℕ) (P : List ℕ → Type 0) : Type 0 where
@@ -96,26 +97,39 @@ AreTold held guests = (i : ℕ) (g : GuestSpec) → slice_get guests i ≡ Some 
 abbrev pub DisksAreTold : (List ℕ → Option (List ℕ)) → List DiskSpec → Type 0
 DisksAreTold held disks = (j : ℕ) (d : DiskSpec) (name : List ℕ) → slice_get disks j ≡ Some d → d.image ≡ Some name → IsTold (held name) disk_limit (Fills d)
 
--- the words ask for this task, and its file is told, within its limit, and says this experiment
-pub record Asks (words : List (List ℕ)) (held : List ℕ → Option (List ℕ)) (task : Task) (e : Experiment) : Type 0 where
-  pub name : List ℕ
-  pub bytes : List ℕ
-  pub command : IsCommand words name task
-  pub told : held name ≡ Some bytes
-  pub limit : length bytes ≤ experiment_limit
-  pub says : Says bytes e
+-- the experiment of an origin, as it is told: the file is told, within its limit, and says it, or it is the load
+abbrev pub IsToldOf : (List ℕ → Option (List ℕ)) → Origin → Experiment → Type 0
+IsToldOf held (File name) e = IsTold (held name) experiment_limit (λ b. Says b e)
+IsToldOf held (Load n) e = e ≡ ring n
+
+-- the words ask for this task with an experiment of this origin, which is told, and it is this one
+pub record Asks (words : List (List ℕ)) (held : List ℕ → Option (List ℕ)) (o : Origin) (task : Task) (e : Experiment) : Type 0 where
+  pub command : AreFor words o task
+  pub told : IsToldOf held o e
 
 -- they ask for its plan
-abbrev pub AsksPlan : List (List ℕ) → (List ℕ → Option (List ℕ)) → Experiment → Type 0
-AsksPlan words held e = Asks words held Plan e
+pub record AsksPlan (words : List (List ℕ)) (held : List ℕ → Option (List ℕ)) (e : Experiment) : Type 0 where
+  pub origin : Origin
+  pub asks : Asks words held origin Plan e
 
--- they ask for a run whose placement fits, and its images and disks are taken
-pub record MayRun (words : List (List ℕ)) (held : List ℕ → Option (List ℕ)) (e : Experiment) : Type 0 where
-  pub host_ticks : ℕ
-  pub asks : Asks words held (Run host_ticks) e
+-- the experiment of a file fits on its slots, and its images and disks are taken
+pub record IsFileRight (held : List ℕ → Option (List ℕ)) (e : Experiment) : Type 0 where
   pub fits : Fits e (placed e)
   pub images : AreTold held e.guests.items
   pub disks : DisksAreTold held e.disks.items
+
+-- a load always fits, and reads no file
+abbrev pub IsRight : (List ℕ → Option (List ℕ)) → Origin → Experiment → Type 0
+IsRight held (File name) e = IsFileRight held e
+IsRight held (Load n) e = Unit {0}
+
+-- they ask for a run of an experiment that is right
+pub record MayRun (words : List (List ℕ)) (held : List ℕ → Option (List ℕ)) (e : Experiment) : Type 0 where
+  pub origin : Origin
+  pub host_ticks : ℕ
+  pub view : View
+  pub asks : Asks words held origin (Run host_ticks view) e
+  pub right : IsRight held origin e
 
 -- no file was at fault, and no put to out failed
 abbrev pub FilesServed : World → Type 0

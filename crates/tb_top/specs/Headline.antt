@@ -3,6 +3,7 @@
 -- up to some virtual tick, at least t / factor rounded down. The printed schedule is legal.
 use Rattle.std.specs.Prelude.{◌≡◌, ◌≢◌, ℕ, ◌/◌, ◌<◌, ◌≤◌, ◌⊎◌, List, length}
 use Rattle.tb_io.specs.Puts.{Takes}
+use Rattle.trace_rec.specs.declared.view.View.{View}
 use Rattle.exp_file.specs.declared.experiment.Experiment.{Experiment}
 use Rattle.host_plan.specs.Fits.{Fits, IsFirstOverload}
 use Rattle.host_plan.specs.Placing.{placed}
@@ -11,21 +12,21 @@ use Rattle.lookahead_core.specs.Synchronous.{trace, ticks_by}
 use Rattle.guest_machine.specs.Tick.{machine_motion}
 use Rattle.host_journal.specs.Entries.{Entry}
 use Rattle.host_journal.specs.Printed.{recs_of, units_of, count_of, up_to_tick}
-use Rattle.host_journal.specs.Texts.{journal_text}
 use Rattle.host_journal.specs.declared.head.Head.{Head}
 use Rattle.slot_sched.specs.Legal.{IsComplete}
 use Rattle.bench_build.specs.Inputs.{Inputs}
 use Rattle.bench_build.specs.Setups.{setup, run_rules}
 use Rattle.bench_build.specs.Stocks.{Suffices}
 use Rattle.tb_top.specs.Ends.{Asks, MayRun, IsPartPut}
-use Rattle.tb_top.specs.Reads.{AreLoaded}
+use Rattle.tb_top.specs.Origins.{Origin, AreInputs}
 use Rattle.tb_top.specs.Runs.{IsHead}
 use Rattle.tb_top.specs.Statuses.{over_status}
+use Rattle.tb_top.specs.Texts.{text}
 use Rattle.tb_top.specs.World.{World, Quiet}
 use Rattle.tb_top.specs.declared.status.Status.{Status}
 use Rattle.tb_top.specs.declared.status.Status.TheVariants.{Done, TooLong, ReadFault, WriteFault, Memory}
-use Rattle.tb_top.specs.declared.words.Task.{Task}
-use Rattle.tb_top.specs.declared.words.Task.TheVariants.{Run}
+use Rattle.tb_top.specs.declared.task.Task.{Task}
+use Rattle.tb_top.specs.declared.task.Task.TheVariants.{Run}
 
 -- neither memory nor a file nor the output failed
 abbrev pub IsUndisturbed : Status → Type 0
@@ -49,23 +50,24 @@ pub record IsTraced (e : Experiment) (i : Inputs) (t g : ℕ) (es : List Entry) 
   pub counted : virtual_tick ≡ count_of g es
   pub paid : virtual_tick ≡ ticks_by machine_motion (setup e i) g (units_of g es)
 
--- of a run of n host ticks, out has taken the text of a journal. Its schedule is legal and comes to its end, and after every host tick each guest is traced
-pub record IsPrinted (w : World) (n : ℕ) (e : Experiment) : Type 0 where
+-- of a run of n host ticks, out has taken the text of a journal in this view. Its schedule is legal and comes to its end, and after every host tick each guest
+-- is traced
+pub record IsPrinted (w : World) (o : Origin) (n : ℕ) (view : View) (e : Experiment) : Type 0 where
   pub inputs : Inputs
-  pub loaded : AreLoaded w.files.held e.guests.items e.disks.items inputs
+  pub loaded : AreInputs w.files.held o e inputs
   pub head : Head
   pub head_is : IsHead e n head
   pub journal : List Entry
-  pub text : Takes w.out.taken w.out_after.taken (journal_text head journal)
+  pub taken : Takes w.out.taken w.out_after.taken (text view head (run_rules e (placed e) inputs n) journal)
   pub schedule : IsComplete (run_rules e (placed e) inputs n) journal
   pub traces : (t : ℕ) → t ≤ n → (g : ℕ) → g < length e.guests.items → IsTraced e inputs t g (up_to_tick t journal)
 
--- of the experiment e in the file that the words name: the placement is accepted exactly where it fits; an accepted run whose images and disks load and whose
--- devices suffice is done; what it then printed; what was printed where memory or the output failed, nothing or a first part of a legal journal or of the plan; and
--- only where a write fault is told may a put to the output have failed
+-- of the experiment e in the file that the words name, or of the load that they ask for: the placement is accepted exactly where it fits; an accepted run whose
+-- images and disks load and whose devices suffice is done; what it then printed, in whichever view; what was printed where memory or the output failed, nothing or a
+-- first part of the text of a legal journal or of the plan; and only where a write fault is told may a put to the output have failed
 pub record Headline (w : World) (s : Status) : Type 0 where
-  pub accepted : (task : Task) (e : Experiment) → Asks w.words w.files.held task e → IsUndisturbed s → IsJudged e s
+  pub accepted : (o : Origin) (task : Task) (e : Experiment) → Asks w.words w.files.held o task e → IsUndisturbed s → IsJudged e s
   pub runs : (e : Experiment) → MayRun w.words w.files.held e → Suffices e w.stock → IsUndisturbed s → s ≡ Done
-  pub printed : (n : ℕ) (e : Experiment) → Asks w.words w.files.held (Run n) e → s ≡ Done → IsPrinted w n e
+  pub printed : (o : Origin) (n : ℕ) (view : View) (e : Experiment) → Asks w.words w.files.held o (Run n view) e → s ≡ Done → IsPrinted w o n view e
   pub cut_short : (s ≡ Memory) ⊎ (s ≡ WriteFault) → Quiet w ⊎ IsPartPut w
   pub unfailed : s ≢ WriteFault → w.out_after.faults ≡ w.out.faults

@@ -16,8 +16,8 @@ use Rattle.dev_face.specs.declared.kind.Kind.{Kind}
 use Rattle.dev_face.specs.declared.kind.Kind.TheVariants as kind
 use Rattle.bench_build.specs.declared.build_fault.BuildFault.{BuildFault}
 use Rattle.bench_build.specs.declared.build_fault.BuildFault.TheVariants as build
-use Rattle.tb_top.specs.declared.words.WordFault.{WordFault}
-use Rattle.tb_top.specs.declared.words.WordFault.TheVariants.{NotWords, EmptyName, BadNumber}
+use Rattle.words_line.specs.declared.word_fault.WordFault.{WordFault}
+use Rattle.words_line.specs.declared.word_fault.WordFault.TheVariants.{NotWords, UnknownCommand, EmptyName, ExtraOption, MissingOption, BadNumber, BadView}
 use Rattle.tb_top.specs.declared.status.FileId.{FileId}
 use Rattle.tb_top.specs.declared.status.FileId.TheVariants as file
 use Rattle.tb_top.specs.declared.status.Status.{Status}
@@ -25,8 +25,12 @@ use Rattle.tb_top.specs.declared.status.Status.TheVariants.{Done, Overload, Usag
 
 abbrev pub usage_word : WordFault → List ℕ
 usage_word NotWords = codes "not-words"
+usage_word UnknownCommand = codes "unknown-command"
 usage_word EmptyName = codes "empty-name"
+usage_word ExtraOption = codes "extra-option"
+usage_word MissingOption = codes "missing-option"
 usage_word BadNumber = codes "bad-number"
+usage_word BadView = codes "bad-view"
 
 abbrev pub why_word : ExpWhy → List ℕ
 why_word NotToml = codes "not-toml"

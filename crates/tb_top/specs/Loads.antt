@@ -11,6 +11,7 @@ use Rattle.bench_build.specs.declared.build_fault.BuildFault.TheVariants as buil
 use Rattle.tb_top.specs.declared.status.FileId.TheVariants as file
 use Rattle.tb_top.specs.declared.status.Status.{Status}
 use Rattle.tb_top.specs.declared.status.Status.TheVariants.{Build, TooLong, ReadFault}
+use Rattle.tb_top.specs.Origins.{Origin, AreInputs}
 use Rattle.tb_top.specs.Reads.{HasRead, IsTooLong, FailedAt, IsContent, AreLoaded, StopsAtGuest, StopsAtDisk, image_limit, disk_limit}
 use Rattle.tb_top.specs.World.{FilesSeen}
 
@@ -36,4 +37,10 @@ Unloaded old new e _ = ⊥
 pub record HasTaken (old : FilesSeen) (guests : List GuestSpec) (disks : List DiskSpec) (e : Experiment) (slots : List ℕ) (b : Builder) : Type 0 where
   pub inputs : Inputs
   pub loaded : AreLoaded old.held guests disks inputs
+  pub building : IsBuilding e slots inputs b
+
+-- and all that the guests and disks of an experiment of this origin start with
+pub record HasInputs (held : List ℕ → Option (List ℕ)) (o : Origin) (e : Experiment) (slots : List ℕ) (b : Builder) : Type 0 where
+  pub inputs : Inputs
+  pub given : AreInputs held o e inputs
   pub building : IsBuilding e slots inputs b

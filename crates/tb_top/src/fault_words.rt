@@ -2,18 +2,22 @@
 ghost use Rattle.std.specs.Prelude.{◌≡◌};
 ghost use Rattle.tb_top.specs.Lines.{usage_word, kind_word, elf_word, why_word, section_word};
 
-use crate::words::WordFault;
 use dev_face::Kind;
 use elf_image::ElfFault;
 use exp_file::{ExpWhy, Section};
+use words_line::WordFault;
 
 pub(crate) fn usage_word(fault: WordFault) -> &'static str
     ensures { result.now ≡ usage_word fault }
 {
     match fault {
         WordFault::NotWords => "not-words",
+        WordFault::UnknownCommand => "unknown-command",
         WordFault::EmptyName => "empty-name",
+        WordFault::ExtraOption => "extra-option",
+        WordFault::MissingOption => "missing-option",
         WordFault::BadNumber => "bad-number",
+        WordFault::BadView => "bad-view",
     }
 }
 

@@ -4,14 +4,17 @@
 mod ask;
 mod build;
 mod fault_words;
+mod law;
 mod load;
+mod load_generated;
 mod report;
 mod run;
 mod status;
+mod task;
 mod top;
-mod words;
 
 pub use bench_build::Stock;
+pub use law::traces_do_not_depend_on_slots;
 pub use status::{FileId, Status};
 pub use top::diecast;
-pub use words::WordFault;
+pub use words_line::WordFault;

@@ -32,7 +32,8 @@ fn load_image<F: Files>(
     requires all { images_wanted builder.old ≡ length e.now.guests.items }
     ensures taken { OnOk result ((slots : List ℕ) → HasTaken (files_seen F.Files files.old) (take guest e.now.guests.items) [] e.now slots builder.old →
         HasTaken (files_seen F.Files files.new) (take (guest + 1) e.now.guests.items) [] e.now slots builder.new) }
-    ensures missed { IfErr result (λ s. (slots : List ℕ) → HasTaken (files_seen F.Files files.old) (take guest e.now.guests.items) [] e.now slots builder.old →
+    ensures missed { IfErr result (λ s. (slots : List ℕ) →
+        HasTaken (files_seen F.Files files.old) (take guest e.now.guests.items) [] e.now slots builder.old →
         OrMemory (Unloaded (files_seen F.Files files.old) (files_seen F.Files files.new) e.now) s) }
     ensures same { OnOk result (files_seen F.Files files.new ≡ files_seen F.Files files.old) }
     ensures images_wanted { images_wanted builder.new ≡ images_wanted builder.old }

@@ -1,5 +1,5 @@
 //! The run of a bench, in a view of it.
-ghost use Rattle.std.specs.Prelude.{◌≡◌, ◌≤◌, ℕ, List, map, length, false, IfOk, take};
+ghost use Rattle.std.specs.Prelude.{◌≡◌, ◌≤◌, ◌⊎◌, ℕ, List, map, length, false, IfOk, take};
 ghost use Rattle.exp_file.specs.declared.experiment.Experiment.{Experiment};
 ghost use Rattle.exp_file.specs.WellFormed.{IsWellFormed};
 ghost use Rattle.lookahead_core.specs.Synchronous.{Setup};
@@ -9,12 +9,13 @@ ghost use Rattle.slot_sched.specs.Schedule.{rules};
 ghost use Rattle.bench_build.specs.Inputs.{Inputs};
 ghost use Rattle.bench_build.specs.Setups.{setup, plan};
 ghost use Rattle.tb_io.specs.Causes.{WriteCause};
-ghost use Rattle.tb_top.specs.Runs.{IsHead, RunPuts, Runs};
+ghost use Rattle.host_journal.specs.Entries.{Entry};
+ghost use Rattle.tb_top.specs.Runs.{IsHead, Shows, RunPuts, Runs};
 
 use dev_face::Device;
 use exp_file::{Experiment, GuestSpec};
 use guest_machine::Machine;
-use host_journal::{Head, JournalKeep, Show};
+use host_journal::{Head, JournalKeep, Show, SummaryKeep, TraceKeep};
 use lookahead_core::Node;
 use slot_sched::{Bench, TickFault};
 use std::alloc::Global;
@@ -71,9 +72,9 @@ fn put_run<N: Node, O: Sink, K: Show<O>>(
     requires few { host_ticks ≤ 1000000 }
     requires members { members_of bench ≤ K.members keep.old }
     requires made { K.is_fresh keep.old }
-    ensures puts { (x : Setup N.State) → BenchStands x bench host_ticks → IsAtTick x bench host_ticks start →
-        RunPuts (K.text keep.old) (rules N.motion x (plan_of bench host_ticks))
-        (O.taken out.old) (O.taken out.new) result }
+    ensures puts { (x : Setup N.State) (text : List Entry → List ℕ) → BenchStands x bench host_ticks → IsAtTick x bench host_ticks start →
+        Shows (rules N.motion x (plan_of bench host_ticks)) (K.text keep.old) (K.shown keep.old) text →
+        RunPuts text (rules N.motion x (plan_of bench host_ticks)) (O.taken out.old) (O.taken out.new) result }
     ensures cause { WriteCause (O.faults out.old) (O.faults out.new) result }
 {
     let mut bench = bench;
@@ -88,11 +89,87 @@ fn put_run<N: Node, O: Sink, K: Show<O>>(
     keep.finish(out)
 }
 
-/// Runs a bench for so many host ticks, and puts its journal.
+/// Runs a bench and puts the lines of its journal, or of its events, as they come.
+fn put_lines<O: Sink, D: Device>(
+    alloc: Global,
+    head: Head,
+    view: View,
+    bench: Bench<Machine<D>>,
+    host_ticks: u64,
+    out: &mut O,
+) -> Result<(), WriteErr>
+    requires lines { (view ≡ View.Journal) ⊎ (view ≡ View.Events) }
+    requires going { bench_failed bench ≡ false }
+    requires fresh { ticks_made bench ≡ 0 }
+    requires few { host_ticks ≤ 1000000 }
+    requires members { members_of bench ≡ length head.names.items }
+    ensures runs { (e : Experiment) (slots : List ℕ) (i : Inputs) → IsHead e host_ticks head →
+        BenchStands (setup e i) bench host_ticks → IsAtTick (setup e i) bench host_ticks start → plan_of bench host_ticks ≡ plan e slots host_ticks →
+        Runs view e slots i host_ticks (O.taken out.old) (O.taken out.new) result }
+    ensures cause { WriteCause (O.faults out.old) (O.faults out.new) result }
+{
+    match JournalKeep::new(alloc, head, view) {
+        Ok(mut keep) => put_run(&mut keep, bench, host_ticks, out),
+        Err(_) => Err(WriteErr::NoMemory),
+    }
+}
+
+/// Runs a bench and puts the traces of its guests.
+fn put_traces<O: Sink, D: Device>(
+    alloc: Global,
+    head: Head,
+    bench: Bench<Machine<D>>,
+    host_ticks: u64,
+    out: &mut O,
+) -> Result<(), WriteErr>
+    requires going { bench_failed bench ≡ false }
+    requires fresh { ticks_made bench ≡ 0 }
+    requires few { host_ticks ≤ 1000000 }
+    requires factor { 1 ≤ head.factor }
+    requires guests { length head.names.items ≤ 32 }
+    requires members { members_of bench ≡ length head.names.items }
+    ensures runs { (e : Experiment) (slots : List ℕ) (i : Inputs) → IsHead e host_ticks head →
+        BenchStands (setup e i) bench host_ticks → IsAtTick (setup e i) bench host_ticks start → plan_of bench host_ticks ≡ plan e slots host_ticks →
+        Runs View.Traces e slots i host_ticks (O.taken out.old) (O.taken out.new) result }
+    ensures cause { WriteCause (O.faults out.old) (O.faults out.new) result }
+{
+    match TraceKeep::new(alloc, head) {
+        Ok(mut keep) => put_run(&mut keep, bench, host_ticks, out),
+        Err(_) => Err(WriteErr::NoMemory),
+    }
+}
+
+/// Runs a bench and puts the summary of its guests.
+fn put_summary<O: Sink, D: Device>(
+    alloc: Global,
+    head: Head,
+    bench: Bench<Machine<D>>,
+    host_ticks: u64,
+    out: &mut O,
+) -> Result<(), WriteErr>
+    requires going { bench_failed bench ≡ false }
+    requires fresh { ticks_made bench ≡ 0 }
+    requires few { host_ticks ≤ 1000000 }
+    requires factor { 1 ≤ head.factor }
+    requires guests { length head.names.items ≤ 32 }
+    requires members { members_of bench ≡ length head.names.items }
+    ensures runs { (e : Experiment) (slots : List ℕ) (i : Inputs) → IsHead e host_ticks head →
+        BenchStands (setup e i) bench host_ticks → IsAtTick (setup e i) bench host_ticks start → plan_of bench host_ticks ≡ plan e slots host_ticks →
+        Runs View.Summary e slots i host_ticks (O.taken out.old) (O.taken out.new) result }
+    ensures cause { WriteCause (O.faults out.old) (O.faults out.new) result }
+{
+    match SummaryKeep::new(alloc, head) {
+        Ok(mut keep) => put_run(&mut keep, bench, host_ticks, out),
+        Err(_) => Err(WriteErr::NoMemory),
+    }
+}
+
+/// Runs a bench for so many host ticks, and puts a view of it.
 pub(crate) fn run<O: Sink, D: Device>(
     alloc: Global,
     e: &Experiment,
     host_ticks: u64,
+    view: View,
     bench: Bench<Machine<D>>,
     out: &mut O,
 ) -> Result<(), WriteErr>
@@ -104,16 +181,16 @@ pub(crate) fn run<O: Sink, D: Device>(
     ensures runs { (slots : List ℕ) (i : Inputs) →
         BenchStands (setup e.now i) bench host_ticks → IsAtTick (setup e.now i) bench host_ticks start →
         plan_of bench host_ticks ≡ plan e.now slots host_ticks →
-        Runs e.now slots i host_ticks (O.taken out.old) (O.taken out.new) result }
+        Runs view e.now slots i host_ticks (O.taken out.old) (O.taken out.new) result }
     ensures cause { WriteCause (O.faults out.old) (O.faults out.new) result }
 {
     let head = match head_for(alloc, e, host_ticks) {
         Ok(head) => head,
         Err(_) => return Err(WriteErr::NoMemory),
     };
-    let mut keep = match JournalKeep::new(alloc, head, View::Journal) {
-        Ok(keep) => keep,
-        Err(_) => return Err(WriteErr::NoMemory),
-    };
-    put_run(&mut keep, bench, host_ticks, out)
+    match view {
+        View::Journal | View::Events => put_lines(alloc, head, view, bench, host_ticks, out),
+        View::Traces => put_traces(alloc, head, bench, host_ticks, out),
+        View::Summary => put_summary(alloc, head, bench, host_ticks, out),
+    }
 }

@@ -2,11 +2,11 @@
 ghost use Rattle.std.specs.Prelude.{◌≡◌};
 ghost use Rattle.tb_top.specs.Statuses.{read_status, over_status, build_status, run_status};
 
-use crate::words::WordFault;
 use bench_build::BuildFault;
 use exp_file::ExpFault;
 use host_plan::Overload;
 use tb_io::{ReadErr, WriteErr};
+use words_line::WordFault;
 
 /// A file that a command reads.
 #[derive(Clone, Copy, Debug, PartialEq, Eq)]

@@ -6,6 +6,7 @@ ghost use Rattle.tb_top.specs.Asking.{IsReady};
 ghost use Rattle.tb_top.specs.Ends.{Ends, Completes, IsAsked, IsPlanned};
 ghost use Rattle.tb_top.specs.Headline.{Headline};
 ghost use Rattle.tb_top.specs.Lines.{Told};
+ghost use Rattle.tb_top.specs.Origins.{Origin, Brings};
 ghost use Rattle.tb_top.specs.Plans.{Plans};
 ghost use Rattle.tb_top.specs.World.{by_kind, sink_seen, sizes, texts, world};
 
@@ -14,13 +15,14 @@ use crate::build::build;
 use crate::report::tell;
 use crate::run::run;
 use crate::status::{Status, over_status, run_status};
-use crate::words::Task;
+use crate::task::Task;
 use bench_build::Stock;
 use dev_face::Device;
 use host_plan::check;
 use plan_text::put_plan;
 use std::alloc::Global;
 use tb_io::{Files, Sink, WriteErr};
+use trace_rec::View;
 
 /// Runs a command: `words` are its words after the program's own name. What it reads comes from
 /// `files`, what it prints goes to `out`, one whole line a put, and why it did not end well is put
@@ -36,8 +38,9 @@ pub fn diecast<F: Files, O: Sink, M: Sink>(
 ) -> Status
     requires stock { IsStock (⟦<Box<dyn Device> as Device>⟧.state) (by_kind stock.clints stock.uarts stock.blks stock.nets) }
 
-    // What the status says and what `out` has taken: with `Done`, the text of a complete legal
-    // journal of the very experiment, images and disks that were read, or the plan of that experiment.
+    // What the status says and what `out` has taken: with `Done`, the text in the view of the command
+    // of a complete legal journal of the very experiment, images and disks that were read or made, or
+    // the plan of that experiment.
     ensures ends { Ends (world (texts words.now) F.Files files.old files.new O.Sink out.old out.new (sizes stock)) result }
 
     // The sentence that the testbed stands for: the placement is accepted exactly where it fits, and
@@ -85,24 +88,28 @@ fn work<F: Files, O: Sink, D: Device>(
         Err(status) => return status,
     };
     match asked.task {
-        Task::Run { host_ticks } => run_asked(alloc, files, &asked, host_ticks, out, stock),
+        Task::Run { host_ticks, view } => {
+            run_asked(alloc, files, &asked, host_ticks, view, out, stock)
+        }
         Task::Plan => put_asked(alloc, &asked, out),
     }
 }
 
-/// Runs an experiment: its bench is built of what is read for it and the devices, and run.
+/// Runs an experiment: its bench is built of what its guests and disks start with and the devices, and run.
 fn run_asked<F: Files, O: Sink, D: Device>(
     alloc: Global,
     files: &mut F,
     asked: &Asked,
     host_ticks: u64,
+    view: View,
     out: &mut O,
     stock: [Vec<D>; 4],
 ) -> Status
     requires ready { IsReady asked.now }
     requires few { host_ticks ≤ 1000000 }
     requires stock { IsStock D.state (items_of stock) }
-    ensures ends { (words : List (List ℕ)) → IsAsked words (F.held files.old) (Task.Run host_ticks) (without_room asked.now.experiment) →
+    ensures ends { (words : List (List ℕ)) (o : Origin) →
+        IsAsked words (F.held files.old) o (Task.Run host_ticks view) (without_room asked.now.experiment) → Brings o asked.now.images →
         Ends (world words F.Files files.old files.new O.Sink out.old out.new (counts (items_of stock))) result }
     ensures unfailed { result ≢ Status.WriteFault → O.faults out.new ≡ O.faults out.old }
 {
@@ -114,7 +121,7 @@ fn run_asked<F: Files, O: Sink, D: Device>(
         Ok(bench) => bench,
         Err(status) => return status,
     };
-    run_status(run(alloc, &asked.experiment, host_ticks, bench, out))
+    run_status(run(alloc, &asked.experiment, host_ticks, view, bench, out))
 }
 
 /// Puts the plan of an experiment, and says whether it fits.

@@ -807,8 +807,8 @@ version = 1
 factor = 1
 slot = [{ capacity = 200 }]
 guest = [
-  { name = 'a', image = 'send', format = 'flat', ram = 4096, rate = 100, nics = 1 },
-  { name = 'b', image = 'receive', format = 'flat', ram = 4096, rate = 100, nics = 1 },
+  { name = 'a', image = 'sends-frame', format = 'flat', ram = 4096, rate = 100, nics = 1 },
+  { name = 'b', image = 'takes-frame', format = 'flat', ram = 4096, rate = 100, nics = 1 },
 ]
 link = [{ a = 'a', b = 'b', bandwidth = 100, delay = 4, queue = 4 }]
 --
@@ -820,7 +820,7 @@ run a.toml --host-ticks 1 --view journal|0|devices|0|2
 version = 1
 factor = 1
 slot = [{ capacity = 100 }]
-guest = [{ name = 'a', image = 'send-60', format = 'flat', ram = 4096, rate = 100, nics = 1 }]
+guest = [{ name = 'a', image = 'sends-frame-60', format = 'flat', ram = 4096, rate = 100, nics = 1 }]
 --
 0 0 drop 0 60
 --
@@ -829,7 +829,7 @@ run a.toml --host-ticks 1 --view journal|0|devices|0|2
 version = 1
 factor = 1
 slot = [{ capacity = 100 }]
-guest = [{ name = 'a', image = 'send-8', format = 'flat', ram = 4096, rate = 100, nics = 1 }]
+guest = [{ name = 'a', image = 'sends-frame-8', format = 'flat', ram = 4096, rate = 100, nics = 1 }]
 --
 0 0 bad 0 8
 --
@@ -1034,4 +1034,266 @@ disk = [{ guest = 'a', sectors = 1, image = 'lost', base = 1 }]
 --
 --
 diecast: image 1: too-long
+==
+run a.toml --host-ticks 1 --view traces|0|all|0|2
+version = 1
+factor = 1
+slot = [{ capacity = 2 }]
+guest = [
+  { name = 'a', image = 'misaligned', format = 'flat', ram = 4096, rate = 2, slot = 0 },
+]
+--
+traces guests 1 ticks 1
+guest 0 a
+0 0 trap 00000000 80000000
+0 0 trap 00000001 00000000
+end
+--
+==
+run a.toml --host-ticks 4 --view journal|0|all|0|2
+version = 1
+factor = 1
+slot = [{ capacity = 5 }]
+guest = [
+  { name = 'a', image = 'timer', format = 'flat', ram = 4096, rate = 5, slot = 0 },
+]
+--
+diecast 1 factor 1 slots 1 guests 1 host 4
+host 1
+slot 0
+run 0 units 5 done 1
+0 0 instr 80000000 800002b7
+0 0 instr 80000004 04028293
+0 0 instr 80000008 30529073
+0 0 instr 8000000c 02004337
+0 0 instr 80000010 00300393
+host 2
+slot 0
+run 0 units 5 done 2
+1 0 instr 80000014 00032223
+1 0 instr 80000018 00732023
+1 0 instr 8000001c 08000413
+1 0 instr 80000020 30441073
+1 0 instr 80000024 30046073
+host 3
+slot 0
+run 0 units 5 done 3
+2 0 instr 80000028 0000006f
+2 0 instr 80000028 0000006f
+2 0 instr 80000028 0000006f
+2 0 instr 80000028 0000006f
+2 0 instr 80000028 0000006f
+host 4
+slot 0
+run 0 units 5 done 4
+3 0 trap 80000007 80000028
+3 0 instr 80000040 0000006f
+3 0 instr 80000040 0000006f
+3 0 instr 80000040 0000006f
+3 0 instr 80000040 0000006f
+end 4
+--
+==
+run a.toml --host-ticks 4 --view events|0|all|0|2
+version = 1
+factor = 1
+slot = [{ capacity = 5 }]
+guest = [
+  { name = 'a', image = 'timer', format = 'flat', ram = 4096, rate = 5, slot = 0 },
+]
+--
+diecast 1 factor 1 slots 1 guests 1 host 4
+host 1
+slot 0
+run 0 units 5 done 1
+host 2
+slot 0
+run 0 units 5 done 2
+host 3
+slot 0
+run 0 units 5 done 3
+host 4
+slot 0
+run 0 units 5 done 4
+3 0 trap 80000007 80000028
+end 4
+--
+==
+run a.toml --host-ticks 4 --view traces|0|all|0|2
+version = 1
+factor = 1
+slot = [{ capacity = 5 }]
+guest = [
+  { name = 'a', image = 'timer', format = 'flat', ram = 4096, rate = 5, slot = 0 },
+]
+--
+traces guests 1 ticks 4
+guest 0 a
+0 0 instr 80000000 800002b7
+0 0 instr 80000004 04028293
+0 0 instr 80000008 30529073
+0 0 instr 8000000c 02004337
+0 0 instr 80000010 00300393
+1 0 instr 80000014 00032223
+1 0 instr 80000018 00732023
+1 0 instr 8000001c 08000413
+1 0 instr 80000020 30441073
+1 0 instr 80000024 30046073
+2 0 instr 80000028 0000006f
+2 0 instr 80000028 0000006f
+2 0 instr 80000028 0000006f
+2 0 instr 80000028 0000006f
+2 0 instr 80000028 0000006f
+3 0 trap 80000007 80000028
+3 0 instr 80000040 0000006f
+3 0 instr 80000040 0000006f
+3 0 instr 80000040 0000006f
+3 0 instr 80000040 0000006f
+end
+--
+==
+run a.toml --host-ticks 40 --view traces|0|all|0|2
+version = 1
+factor = 10
+slot = [{ capacity = 5 }]
+guest = [
+  { name = 'a', image = 'timer', format = 'flat', ram = 4096, rate = 5, slot = 0 },
+]
+--
+traces guests 1 ticks 4
+guest 0 a
+0 0 instr 80000000 800002b7
+0 0 instr 80000004 04028293
+0 0 instr 80000008 30529073
+0 0 instr 8000000c 02004337
+0 0 instr 80000010 00300393
+1 0 instr 80000014 00032223
+1 0 instr 80000018 00732023
+1 0 instr 8000001c 08000413
+1 0 instr 80000020 30441073
+1 0 instr 80000024 30046073
+2 0 instr 80000028 0000006f
+2 0 instr 80000028 0000006f
+2 0 instr 80000028 0000006f
+2 0 instr 80000028 0000006f
+2 0 instr 80000028 0000006f
+3 0 trap 80000007 80000028
+3 0 instr 80000040 0000006f
+3 0 instr 80000040 0000006f
+3 0 instr 80000040 0000006f
+3 0 instr 80000040 0000006f
+end
+--
+==
+run a.toml --host-ticks 4 --view summary|0|all|0|2
+version = 1
+factor = 1
+slot = [{ capacity = 5 }]
+guest = [
+  { name = 'a', image = 'timer', format = 'flat', ram = 4096, rate = 5, slot = 0 },
+]
+--
+summary guests 1 ticks 4
+0 a instr 19 trap 1 disk 0 sent 0 drop 0 bad 0 recv 0 lost 0 uart 0 broken 0 halt 0
+end
+--
+==
+run a.toml --host-ticks 1 --view traces|0|all|0|2
+version = 1
+factor = 2
+slot = [{ capacity = 1 }]
+guest = [
+  { name = 'a', image = 'jump', format = 'flat', ram = 4096, rate = 2 },
+]
+--
+traces guests 1 ticks 0
+guest 0 a
+end
+--
+==
+run a.toml --host-ticks 4|0|all|0|2
+version = 1
+factor = 2
+slot = [{ capacity = 1 }]
+guest = [
+  { name = 'a', image = 'jump', format = 'flat', ram = 4096, rate = 2 },
+]
+--
+summary guests 1 ticks 2
+0 a instr 4 trap 0 disk 0 sent 0 drop 0 bad 0 recv 0 lost 0 uart 0 broken 0 halt 0
+end
+--
+==
+run --view journal a.toml --host-ticks=4|0|all|0|2
+version = 1
+factor = 2
+slot = [{ capacity = 1 }]
+guest = [
+  { name = 'a', image = 'jump', format = 'flat', ram = 4096, rate = 2 },
+]
+--
+diecast 1 factor 2 slots 1 guests 1 host 4
+host 1
+slot 0
+run 0 units 1 done 0
+host 2
+slot 0
+run 0 units 1 done 1
+0 0 instr 80000000 0000006f
+0 0 instr 80000000 0000006f
+host 3
+slot 0
+run 0 units 1 done 1
+host 4
+slot 0
+run 0 units 1 done 2
+1 0 instr 80000000 0000006f
+1 0 instr 80000000 0000006f
+end 4
+--
+==
+run a.toml --host-ticks 4 --view fast|0|all|2|0
+--
+--
+diecast: usage: bad-view
+==
+run a.toml|0|all|2|0
+--
+--
+diecast: usage: missing-option
+==
+plan a.toml --view journal|0|all|2|0
+--
+--
+diecast: usage: extra-option
+==
+gen 1 --host-ticks 4|0|all|2|0
+--
+--
+diecast: usage: bad-number
+==
+gen 33 --host-ticks 4|0|all|2|0
+--
+--
+diecast: usage: bad-number
+==
+go a.toml|0|all|2|0
+--
+--
+diecast: usage: unknown-command
+==
+|0|all|2|0
+--
+--
+diecast: usage: not-words
+==
+gen 4 --host-ticks 400|0|all|0|0
+--
+summary guests 4 ticks 100
+0 g0 instr 10000 trap 0 disk 0 sent 32 drop 32 bad 0 recv 32 lost 0 uart 0 broken 0 halt 0
+1 g1 instr 10000 trap 0 disk 0 sent 32 drop 32 bad 0 recv 32 lost 0 uart 0 broken 0 halt 0
+2 g2 instr 10000 trap 0 disk 0 sent 32 drop 32 bad 0 recv 32 lost 0 uart 0 broken 0 halt 0
+3 g3 instr 10000 trap 0 disk 0 sent 32 drop 32 bad 0 recv 32 lost 0 uart 0 broken 0 halt 0
+end
+--
 ";

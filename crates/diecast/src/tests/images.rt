@@ -29,7 +29,7 @@ const ALARM: &[u8; 28] =
 
 /// Stores each value of a table to the address before it, and waits. The table brings the first nic up with one buffer
 /// that it sends: a header of zeros and a frame of 250 bytes of zeros.
-const SEND: &[u8; 150] =
+const SENDS_FRAME: &[u8; 150] =
     b"\x97\x02\0\0\x03\xa3\x02\x02\x63\x0a\x03\0\x83\xa3\x42\x02\x23\x20\x73\0\x93\x82\x82\0\x6f\xf0\xdf\xfe\x73\0\
 \x50\x10\x24\x10\0\x10\x01\0\0\0\x20\x10\0\x10\x01\0\0\0\x70\x10\0\x10\x0f\0\0\0\x30\x10\0\x10\x01\0\0\0\x38\
 \x10\0\x10\x01\0\0\0\x80\x10\0\x10\x80\0\0\x80\x90\x10\0\x10\x90\0\0\x80\xa0\x10\0\x10\x98\0\0\x80\x44\x10\0\
@@ -37,7 +37,7 @@ const SEND: &[u8; 150] =
 \0\0\0\x01\0\0\0";
 
 /// The same with one buffer for a frame of 250 bytes that it receives.
-const RECEIVE: &[u8; 150] =
+const TAKES_FRAME: &[u8; 150] =
     b"\x97\x02\0\0\x03\xa3\x02\x02\x63\x0a\x03\0\x83\xa3\x42\x02\x23\x20\x73\0\x93\x82\x82\0\x6f\xf0\xdf\xfe\x73\0\
 \x50\x10\x24\x10\0\x10\x01\0\0\0\x20\x10\0\x10\x01\0\0\0\x70\x10\0\x10\x0f\0\0\0\x30\x10\0\x10\0\0\0\0\x38\
 \x10\0\x10\x01\0\0\0\x80\x10\0\x10\x80\0\0\x80\x90\x10\0\x10\x90\0\0\x80\xa0\x10\0\x10\x98\0\0\x80\x44\x10\0\
@@ -61,24 +61,28 @@ const IMAGES: [(&str, &[u8]); 10] = [
     ("sends", SENDS),
     ("timer", TIMER),
     ("alarm", ALARM),
-    ("send", SEND),
-    ("receive", RECEIVE),
+    ("sends-frame", SENDS_FRAME),
+    ("takes-frame", TAKES_FRAME),
 ];
 
-/// Where the length of the buffer stands that is sent.
-const BUFFER_LENGTH: usize = 136;
+/// Where the two low bytes of the length of the buffer stand that is sent.
+const LENGTH_LOW: usize = 136;
+
+const LENGTH_HIGH: usize = 137;
 
 /// Adds each program, and those that send a frame of 60 bytes and one of 8; and a page of zeros and one zero more.
 pub(crate) fn add_images(files: &mut MemFiles) -> Result<(), Fail> {
     for (name, bytes) in IMAGES {
         files.add(name, bytes)?;
     }
-    let mut send_60 = *SEND;
-    let mut send_8 = *SEND;
-    (send_60[BUFFER_LENGTH], send_60[BUFFER_LENGTH + 1]) = (72, 0);
-    (send_8[BUFFER_LENGTH], send_8[BUFFER_LENGTH + 1]) = (20, 0);
-    files.add("send-60", &send_60)?;
-    files.add("send-8", &send_8)?;
+    let mut short = *SENDS_FRAME;
+    let mut bad = *SENDS_FRAME;
+    short[LENGTH_LOW] = 72;
+    short[LENGTH_HIGH] = 0;
+    bad[LENGTH_LOW] = 20;
+    bad[LENGTH_HIGH] = 0;
+    files.add("sends-frame-60", &short)?;
+    files.add("sends-frame-8", &bad)?;
     files.add("more", &[0; 4097])?;
     Ok(())
 }
