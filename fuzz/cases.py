@@ -8,6 +8,7 @@ import claims
 import experiments
 import guests
 import images
+import oracle
 
 FILE = "a.toml"
 
@@ -19,31 +20,26 @@ class Case:
     words: list[bytes]
     files: dict[str, bytes] = field(default_factory=dict)
 
-    @property
-    def experiment(self) -> bytes:
-        return self.files.get(FILE, b"")
-
 
 class Inputs:
-    """What cases are made of: ELF files that are right, and the views that the program has."""
+    """What cases are made of: ELF files that are right."""
 
-    def __init__(self, views: list[bytes]) -> None:
-        self.views = views
+    def __init__(self) -> None:
         self.elf_files = images.elf_files()
 
 
-def long_run(rng: Random, inputs: Inputs, experiment: bytes, most: int) -> list[bytes]:
+def long_run(rng: Random, experiment: bytes, most: int) -> list[bytes]:
     """A run of so many host ticks that they come to about so many units, in any view."""
-    ticks = min(1_000_000, most // max(1, sum(c for c in claims.capacities(experiment) if 0 < c <= 1_000_000)))
-    view = b"journal" if rng.random() < 0.6 else rng.choice(inputs.views)
-    return [b"run", FILE.encode(), b"--host-ticks", str(ticks).encode(), b"--view", view]
+    ticks = min(1_000_000, most // max(1, sum(c for c in oracle.capacities(experiment) if 0 < c <= 1_000_000)))
+    view = "journal" if rng.random() < 0.6 else rng.choice(oracle.VIEWS)
+    return [b"run", FILE.encode(), b"--host-ticks", str(ticks).encode(), b"--view", view.encode()]
 
 
-def some_words(rng: Random, inputs: Inputs, experiment: bytes) -> list[bytes]:
+def some_words(rng: Random, experiment: bytes) -> list[bytes]:
     """A plan, or a run that is short or comes to a few thousand units."""
     if rng.random() < 0.1:
         return [b"plan", FILE.encode()]
-    words = long_run(rng, inputs, experiment, 5000)
+    words = long_run(rng, experiment, 5000)
     if rng.random() < 0.6:
         words[3] = str(min(int(words[3]), rng.choice([0, 1, 2, 50]))).encode()
     return words
@@ -68,7 +64,7 @@ def with_files(rng: Random, experiment: experiments.Table, image: Callable[[gues
 def hostile_guests(rng: Random, inputs: Inputs) -> Case:
     experiment = experiments.valid(rng, (50, 100, 400))
     files = with_files(rng, experiment, lambda machine: guests.hostile_image(rng, machine))
-    return Case(long_run(rng, inputs, files[FILE], rng.choice([20_000] * 19 + [300_000])), files)
+    return Case(long_run(rng, files[FILE], rng.choice([20_000] * 19 + [300_000])), files)
 
 
 def flat_images(rng: Random, inputs: Inputs) -> Case:
@@ -80,7 +76,7 @@ def flat_images(rng: Random, inputs: Inputs) -> Case:
         return guests.random_image(rng, machine)
 
     files = with_files(rng, experiment, image)
-    return Case(some_words(rng, inputs, files[FILE]), files)
+    return Case(some_words(rng, files[FILE]), files)
 
 
 def elf_images(rng: Random, inputs: Inputs) -> Case:
@@ -88,7 +84,7 @@ def elf_images(rng: Random, inputs: Inputs) -> Case:
     for guest in experiment["guest"]:
         guest["format"] = "elf"
     files = with_files(rng, experiment, lambda machine: images.hostile_elf(rng, inputs.elf_files))
-    return Case(some_words(rng, inputs, files[FILE]), files)
+    return Case(some_words(rng, files[FILE]), files)
 
 
 def changed_experiments(rng: Random, inputs: Inputs) -> Case:
@@ -97,14 +93,14 @@ def changed_experiments(rng: Random, inputs: Inputs) -> Case:
     for _ in range(rng.choice([1, 1, 1, 2, 4])):
         experiments.change(rng, experiment)
     files[FILE] = experiments.text_of(experiment, rng.random() < 0.2).encode()
-    return Case(some_words(rng, inputs, files[FILE]), files)
+    return Case(some_words(rng, files[FILE]), files)
 
 
 def scrambled_experiments(rng: Random, inputs: Inputs) -> Case:
     experiment = experiments.valid(rng)
     files = with_files(rng, experiment, lambda machine: b"\x6f\0\0\0")
     files[FILE] = experiments.scramble(rng, files[FILE])
-    return Case(some_words(rng, inputs, files[FILE]), files)
+    return Case(some_words(rng, files[FILE]), files)
 
 
 def deep_experiments(rng: Random, inputs: Inputs) -> Case:
@@ -115,7 +111,7 @@ def deep_experiments(rng: Random, inputs: Inputs) -> Case:
 
 
 def soups(rng: Random, inputs: Inputs) -> Case:
-    return Case(some_words(rng, inputs, b""), {FILE: experiments.soup(rng)})
+    return Case(some_words(rng, b""), {FILE: experiments.soup(rng)})
 
 
 def long_files(rng: Random, inputs: Inputs) -> Case:
@@ -132,7 +128,7 @@ def long_files(rng: Random, inputs: Inputs) -> Case:
         experiment.setdefault("disk", []).append({"guest": "g0", "sectors": 32_768, "base": 1, "image": "d9"})
         files[FILE] = experiments.text_of(experiment).encode()
         files["d9"] = bytes(16_777_216 + more)
-    return Case(some_words(rng, inputs, files[FILE]), files)
+    return Case(some_words(rng, files[FILE]), files)
 
 
 WORDS = [
@@ -145,7 +141,11 @@ WORDS = [
 def odd_words(rng: Random, inputs: Inputs) -> Case:
     experiment = experiments.valid(rng)
     files = with_files(rng, experiment, lambda machine: b"\x6f\0\0\0")
-    words = [b"run", FILE.encode(), b"--host-ticks", b"4", b"--view", b"journal"] if rng.random() < 0.6 else [b"plan", FILE.encode()]
+    count = str(rng.choice([2, 3, 4, 31, 32, 33, 1])).encode()
+    words = rng.choice([
+        [b"run", FILE.encode(), b"--host-ticks", b"4", b"--view", rng.choice(oracle.VIEWS).encode()], [b"run", FILE.encode(), b"--host-ticks", b"4"],
+        [b"plan", FILE.encode()], [b"gen", count, b"--host-ticks", b"40"],
+    ])
     for _ in range(rng.choice([0, 1, 1, 2, 5])):
         kind = rng.randrange(4)
         at = rng.randrange(len(words) + 1)
@@ -161,10 +161,17 @@ def odd_words(rng: Random, inputs: Inputs) -> Case:
     return Case([b"40" if word == b"1000000" else word for word in words], files)
 
 
+def long_runs(rng: Random, inputs: Inputs) -> Case:
+    """Guests that use their devices rightly and then jump in place, for as many units as have a limit of time."""
+    experiment = experiments.valid(rng, (50, 100, 400))
+    files = with_files(rng, experiment, guests.friendly_image)
+    return Case(long_run(rng, files[FILE], claims.UNITS), files)
+
+
 # Each kind of case, and how often it comes.
-KINDS: list[tuple[int, Callable[[Random, Inputs], Case]]] = [
-    (30, hostile_guests), (8, flat_images), (10, elf_images), (20, changed_experiments), (15, scrambled_experiments), (4, soups),
-    (2, deep_experiments), (8, odd_words), (1, long_files),
+KINDS: list[tuple[float, Callable[[Random, Inputs], Case]]] = [
+    (31, hostile_guests), (8, flat_images), (10, elf_images), (20, changed_experiments), (15, scrambled_experiments), (4, soups),
+    (2, deep_experiments), (8, odd_words), (1, long_files), (0.3, long_runs),
 ]
 
 

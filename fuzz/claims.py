@@ -9,8 +9,6 @@ import oracle
 UNITS = 10_000_000
 SECONDS = 10.0
 
-VIEWS = [b"journal", b"events", b"traces", b"summary"]
-
 NUMBER = r"(?:0|[1-9][0-9]*)"
 NAME = "[a-z0-9_-]{1,32}"
 KEY = r"[!-~]{1,32}"
@@ -74,33 +72,6 @@ class Ended:
     stuck: bool
 
 
-def capacities(experiment: bytes) -> list[int]:
-    """The capacities that an experiment file gives its slots, none where it says no such thing."""
-    try:
-        slots = oracle.document_of(experiment).get("slot", [])
-        return [slot["capacity"] for slot in slots if isinstance(slot["capacity"], int)]
-    except (ValueError, TypeError, KeyError, AttributeError, oracle.Unsure):
-        return []
-
-
-def is_run(words: list[bytes]) -> bool:
-    return words[:1] == [b"run"]
-
-
-def host_ticks(words: list[bytes]) -> int:
-    """The host ticks that are asked for, 0 where they are no such number."""
-    if not is_run(words) or len(words) < 4:
-        return 0
-    asked = words[3]
-    return int(asked) if asked.isdigit() and len(asked) <= 7 else 0
-
-
-def units(words: list[bytes], experiment: bytes) -> int:
-    """The host ticks that are asked for times the sum of the capacities."""
-    ticks = host_ticks(words)
-    return ticks * sum(capacities(experiment)) if ticks else 0
-
-
 def line_faults(ended: Ended) -> list[str]:
     """The message is the one line of the exit status."""
     if ended.status == 0:
@@ -113,13 +84,12 @@ def line_faults(ended: Ended) -> list[str]:
     return []
 
 
-def journal_faults(lines: list[str], whole: bool, experiment: bytes) -> list[str]:
+def journal_faults(lines: list[str], whole: bool, capacity: list[int]) -> list[str]:
     """Each line has a form of the journal, no turn is longer than its capacity, and no guest falls behind its factor."""
     head = HEAD.fullmatch(lines[0])
     if not head:
         return [f"the first line is {lines[0]!r}"]
     factor, slots, guests, ticks = map(int, head.groups())
-    capacity = capacities(experiment)
     done = [0] * guests
     tick, slot, used = 0, -1, 0
 
@@ -182,9 +152,9 @@ def plan_faults(lines: list[str], status: int) -> list[str]:
     return [] if (last, status) in (("fits", 0), ("over", 1)) else [f"the plan ends with {lines[-1]!r} and exit status {status}"]
 
 
-def text_faults(words: list[bytes], experiment: bytes, ended: Ended) -> list[str]:
+def text_faults(files: dict[str, bytes], command: oracle.Command, ended: Ended) -> list[str]:
     """What went to standard output is what the exit status says."""
-    put = ended.status == 0 or (ended.status == 1 and not is_run(words))
+    put = ended.status == 0 or (ended.status == 1 and command.kind == "plan")
     if ended.status in (6, 7):
         return []
     if not put:
@@ -195,45 +165,38 @@ def text_faults(words: list[bytes], experiment: bytes, ended: Ended) -> list[str
         return ["its text has no last line"]
     if not ended.whole:
         lines.pop()
-    first = lines[0].split(" ")[0]
-    if first == "traces":
-        return traces_faults(lines, ended.whole)
-    if first == "summary":
+    if command.kind == "plan":
+        return plan_faults(lines, ended.status)
+    if command.kind == "gen" or command.view == "summary":
         return summary_faults(lines, ended.whole)
-    return plan_faults(lines, ended.status) if first == "plan" else journal_faults(lines, ended.whole, experiment)
-
-
-def is_plain(words: list[bytes]) -> bool:
-    """Whether the words are those of a right run or plan of the experiment."""
-    if words == [b"plan", b"a.toml"]:
-        return True
-    number = words[3].decode("ascii", "replace") if len(words) == 6 else ""
-    right = words[:3] == [b"run", b"a.toml", b"--host-ticks"] and words[4:5] == [b"--view"] and words[5] in VIEWS
-    return right and re.fullmatch(NUMBER, number) is not None and int(number) <= 1_000_000
+    if command.view == "traces":
+        return traces_faults(lines, ended.whole)
+    return journal_faults(lines, ended.whole, oracle.capacities(files.get(command.of, b"")))
 
 
 def ending_faults(words: list[bytes], files: dict[str, bytes], ended: Ended) -> list[str]:
     """It ended as docs/FORMATS.md says that it must, or for want of memory."""
-    if not is_plain(words) or ended.status == 7:
-        return []
     try:
-        status, line = oracle.ending(not is_run(words), files)
+        status, line = oracle.ending(words, files)
     except oracle.Unsure:
         return []
     wanted = f"diecast: {line}\n".encode() if status else b""
-    if (ended.status, ended.msg) == (status, wanted):
+    if ended.status == 7 or (ended.status, ended.msg) == (status, wanted):
         return []
     return [f"it ended with {ended.status} and {ended.msg[:200]!r}, and not with {status} and {wanted!r}"]
 
 
 def faults(words: list[bytes], files: dict[str, bytes], ended: Ended) -> list[str]:
     """What a run must not do and did."""
-    experiment = files.get("a.toml", b"")
     if ended.stuck:
         return ["it did not end"]
     if ended.status < 0:
         return [f"signal {-ended.status} ended it"]
-    found = line_faults(ended) + text_faults(words, experiment, ended) + ending_faults(words, files, ended)
-    if ended.seconds > SECONDS and units(words, experiment) <= UNITS:
+    found = line_faults(ended) + ending_faults(words, files, ended)
+    try:
+        found += text_faults(files, oracle.command_of(words), ended)
+    except oracle.Usage:
+        found += ["it put something to standard output"] if ended.out else []
+    if ended.seconds > SECONDS and oracle.units(words, files) <= UNITS:
         found.append(f"it took {ended.seconds:.1f} s of processor time")
     return found

@@ -16,7 +16,8 @@ from collections import Counter
 from pathlib import Path
 
 from cases import KINDS, Case, Inputs, case_of
-from claims import VIEWS, Ended, faults, units
+from claims import Ended, faults
+from oracle import units
 
 TOP = Path(__file__).resolve().parent.parent
 # A run is ended after this much processor time, and after this much time of any kind without output.
@@ -69,12 +70,10 @@ def lay_out(case: Case) -> None:
 
 
 class Program:
-    """The program, and the views that it has."""
+    """The program."""
 
     def __init__(self, path: Path) -> None:
         self.path = path
-        words = [b"run", b"missing", b"--host-ticks", b"0", b"--view"]
-        self.views = [view for view in VIEWS if run(path, [*words, view]).status != 2]
 
     def faults_of(self, case: Case) -> tuple[Ended, list[str]]:
         """How a case ends, and what it did that it must not."""
@@ -156,8 +155,8 @@ class Tally:
 def fuzz(path: Path, args: argparse.Namespace) -> int:
     began = time.monotonic()
     program = Program(path)
-    inputs = Inputs(program.views)
-    print(f"{path}, with {len(program.views)} views, from seed {args.seed}, {len(KINDS)} kinds of cases", flush=True)
+    inputs = Inputs()
+    print(f"{path}, from seed {args.seed}, {len(KINDS)} kinds of cases", flush=True)
     tally = Tally()
     seeds = [args.one] if args.one is not None else range(args.seed, args.seed + args.count)
     for seed in seeds:
@@ -169,7 +168,7 @@ def fuzz(path: Path, args: argparse.Namespace) -> int:
             found = program.differs(case, ended)
         tally.add(kind, ended)
         if args.one is not None:
-            print(f"{kind}: {units(case.words, case.experiment)} units, exit status {ended.status}, {ended.seconds:.2f} s, {ended.msg!r}")
+            print(f"{kind}: {units(case.words, case.files)} units, exit status {ended.status}, {ended.seconds:.2f} s, {ended.msg!r}")
             keep(args.keep, seed, case, found)
         if found:
             tally.failed += 1

@@ -309,7 +309,7 @@ def friendly_image(machine: Machine) -> bytes:
             pages += page.ljust(PAGE, b"\0")
             words += bring_up(rng, queue, machine, 0) + put_at(queue.device + NOTIFY, number)
     words.append(jump(0, 0))
-    return struct.pack(f"<{len(words)}I", *words).ljust(PAGE, b"\0") + pages
+    return (struct.pack(f"<{len(words)}I", *words).ljust(PAGE, b"\0") + pages)[: machine.ram]
 
 
 def random_image(rng: Random, machine: Machine) -> bytes:

@@ -1,12 +1,89 @@
 """What a run or a plan must end with, worked out from docs/FORMATS.md alone."""
 
 import math
+import re
 import struct
 import tomllib
+from dataclasses import dataclass
 from typing import Any
 
 EXPERIMENT_LIMIT, IMAGE_LIMIT, DISK_LIMIT = 1_048_576, 33_554_432, 16_777_216
 NAME = set("abcdefghijklmnopqrstuvwxyz0123456789_-")
+
+VIEWS = ["journal", "events", "traces", "summary"]
+
+
+@dataclass
+class Command:
+    """What words ask for: `run` and `plan` of a file, or `gen` of so many guests."""
+
+    kind: str
+    of: str
+    ticks: int = 0
+    view: str = "summary"
+
+
+class Usage(Exception):
+    """The first thing that is wrong with words."""
+
+
+def number_of(text: str, low: int, high: int) -> int:
+    """The number that a text is, in this range."""
+    if not re.fullmatch("0|[1-9][0-9]{0,7}", text) or not low <= int(text) <= high:
+        raise Usage("bad-number")
+    return int(text)
+
+
+def split(words: list[str]) -> tuple[list[str], dict[str, str]]:
+    """The words of a command that are no options, and its options with their values."""
+    plain: list[str] = []
+    options: dict[str, str] = {}
+    left = list(words)
+    while left:
+        word = left.pop(0)
+        if word == "--":
+            plain += left
+            break
+        if word == "-" or not word.startswith("-"):
+            plain.append(word)
+            continue
+        name, equals, value = word.partition("=")
+        if not equals:
+            if not left or (left[0].startswith("-") and left[0] != "-"):
+                raise Usage("not-words")
+            value = left.pop(0)
+        if name not in ("--host-ticks", "--view") or name in options:
+            raise Usage("not-words")
+        options[name] = value
+    if len(plain) != 2:
+        raise Usage("not-words")
+    return plain, options
+
+
+def command_of(words: list[bytes]) -> Command:
+    """What words ask for."""
+    try:
+        (kind, of), options = split([word.decode() for word in words])
+    except UnicodeDecodeError as odd:
+        raise Usage("not-words") from odd
+    if kind not in ("run", "plan", "gen"):
+        raise Usage("unknown-command")
+    if kind != "gen" and not of:
+        raise Usage("empty-name")
+    if kind == "gen":
+        number_of(of, 2, 32)
+    if (kind == "plan" and options) or (kind == "gen" and "--view" in options):
+        raise Usage("extra-option")
+    if kind == "plan":
+        return Command(kind, of)
+    if "--host-ticks" not in options:
+        raise Usage("missing-option")
+    ticks = number_of(options["--host-ticks"], 0, 1_000_000)
+    view = options.get("--view", "summary")
+    if view not in VIEWS:
+        raise Usage("bad-view")
+    return Command(kind, of, ticks, view)
+
 
 # Each key with its kind, its range and whether it may be absent, in the order in which faults are told.
 Key = tuple[str, type, Any, bool]
@@ -229,9 +306,15 @@ def load_fault(experiment: dict, files: dict[str, bytes]) -> tuple[int, str] | N
     return None
 
 
-def ending(plan: bool, files: dict[str, bytes]) -> tuple[int, str]:
-    """The exit status of a run or a plan of `a.toml`, and its line without the program's name."""
-    text = content("a.toml", files, EXPERIMENT_LIMIT)
+def ending(words: list[bytes], files: dict[str, bytes]) -> tuple[int, str]:
+    """The exit status of a command, and its line without the program's name."""
+    try:
+        command = command_of(words)
+    except Usage as why:
+        return 2, f"usage: {why}"
+    if command.kind == "gen":
+        return 0, ""
+    text = content(command.of, files, EXPERIMENT_LIMIT)
     if isinstance(text, str):
         return (4 if text == "too long" else 5), f"{text}: experiment"
     try:
@@ -241,4 +324,24 @@ def ending(plan: bool, files: dict[str, bytes]) -> tuple[int, str]:
     over = overload(experiment)
     if over:
         return 1, f"overload: {over}"
-    return (None if plan else load_fault(experiment, files)) or (0, "")
+    return (None if command.kind == "plan" else load_fault(experiment, files)) or (0, "")
+
+
+def capacities(text: bytes) -> list[int]:
+    """The capacities that an experiment file gives its slots, none where it says no such thing."""
+    try:
+        slots = document_of(text).get("slot", [])
+        return [slot["capacity"] for slot in slots if isinstance(slot["capacity"], int)]
+    except (ValueError, TypeError, KeyError, AttributeError, Unsure):
+        return []
+
+
+def units(words: list[bytes], files: dict[str, bytes]) -> int:
+    """The host ticks that are asked for times the sum of the capacities."""
+    try:
+        command = command_of(words)
+    except Usage:
+        return 0
+    if command.kind == "gen":
+        return command.ticks * 2 * 25 * ((int(command.of) + 1) // 2)
+    return command.ticks * sum(capacities(files.get(command.of, b"")))
