@@ -761,6 +761,49 @@ run 1 units 1 done 3
 end 2
 --
 ==
+run a.toml --host-ticks 1 --view journal|0|schedule|0|3
+version = 1
+factor = 1
+slot = [{ capacity = 20 }, { capacity = 1 }]
+guest = [
+  { name = 'a', image = 'wait', format = 'flat', ram = 4096, rate = 1, slot = 0, nics = 1 },
+  { name = 'b', image = 'wait', format = 'flat', ram = 4096, rate = 1, slot = 1, nics = 1 },
+]
+link = [{ a = 'a', b = 'b', bandwidth = 100, delay = 13, queue = 1 }]
+--
+diecast 1 factor 1 slots 2 guests 2 host 1
+host 1
+slot 0
+run 0 units 1 done 1
+run 0 units 12 done 13
+slot 1
+run 1 units 1 done 1
+end 1
+--
+==
+run a.toml --host-ticks 1 --view journal|0|schedule|0|3
+version = 1
+factor = 1
+slot = [{ capacity = 100 }, { capacity = 40 }]
+guest = [
+  { name = 'a', image = 'sends-frame', format = 'flat', ram = 4096, rate = 100, slot = 0, nics = 1 },
+  { name = 'b', image = 'wait', format = 'flat', ram = 4096, rate = 1, slot = 1, nics = 1 },
+]
+link = [{ a = 'a', b = 'b', bandwidth = 1000, delay = 12, queue = 1 }]
+--
+diecast 1 factor 1 slots 2 guests 2 host 1
+host 1
+slot 0
+run 0 units 64 done 1
+run 0 units 11 done 12
+slot 1
+run 1 units 1 done 1
+run 1 units 11 done 12
+run 1 units 1 done 13
+run 1 units 11 done 24
+end 1
+--
+==
 run a.toml --host-ticks 4 --view journal|0|all|0|2
 version = 1
 factor = 2
