@@ -28,6 +28,9 @@ class Uart(unittest.TestCase):
     def test_from_standard_input(self):
         self.assertEqual(output("uart", "-", "1", put=ECHO.read_text()).splitlines(), ANSWERS)
 
+    def test_the_first_guest_on_standard_input_where_nothing_is_told(self):
+        self.assertEqual(output("uart", put=ECHO.read_text()), output("uart", ECHO, "0"))
+
     def test_guest_by_guest(self):
         lines = output("uart", ECHO, "each").splitlines()
         self.assertEqual(lines[0], "guest 0")
