@@ -29,14 +29,19 @@ expect() {
     fi
 }
 
-expect "plan run" ""
+expect "gen plan run" ""
 expect "run" r
 expect "a.toml b.toml folder" run ""
 expect "a.toml" plan a
-expect "--host-ticks" run a.toml ""
+expect "--host-ticks --view" run a.toml ""
 expect "" run a.toml --host-ticks ""
 expect "--view" run a.toml --host-ticks 10 ""
-expect "journal" run a.toml --host-ticks 10 --view ""
+expect "events journal summary traces" run a.toml --host-ticks 10 --view ""
+expect "summary" run a.toml --view s
+expect "--host-ticks" run a.toml --view journal ""
 expect "" plan a.toml ""
+expect "" gen ""
+expect "--host-ticks" gen 4 ""
+expect "" gen 4 --host-ticks ""
 
 exit "$failed"

@@ -4,8 +4,12 @@
 #
 # The journal of one-guest, the plans of two-slots, the text of hello-uart and all lines of messages were worked
 # out by hand. The journal of two-slots, both files of compiled-c and the sum of disk are the output of a run that was
-# kept, so they show only that it has not changed. The text of disk is what its guest says on qemu, and the times that
-# its requests take were worked out by hand.
+# kept, so they show only that it has not changed. The texts of disk, log and timer are what their guests say on qemu, and the
+# times that the requests of disk take were worked out by hand. The texts of the linked guests are what examples/expected.py
+# works out of their experiments, and the files of their frames and the table of sweep are what tools/model/run
+# prints of them.
+#
+# It needs python3, for the tools that look at journals.
 #
 # usage: tools/examples.sh [PROGRAM]
 set -u
@@ -46,6 +50,19 @@ puts() {
     tell "$?" "$wanted"
 }
 
+uart() {
+    "$top/tools/uart" - "$@"
+}
+
+traces() {
+    "$top/tools/traces" -
+}
+
+# What happened but for instructions and the bytes of the UART.
+events() {
+    grep -E '^[0-9]+ [0-9]+ (disk|trap|broken|sent|drop|bad|recv|lost|halt)( |$)'
+}
+
 run one-guest 0 "" run a.toml --host-ticks 4 --view journal
 puts one-guest/a.journal
 
@@ -74,13 +91,52 @@ for image in elf flat; do
 done
 
 run hello-uart 0 "" run hello.toml --host-ticks 10 --view journal
-# shellcheck disable=SC2016
-puts hello-uart/hello.txt awk '$3 == "uart" { printf "%c", $4 }'
+puts hello-uart/hello.txt uart
 
-run disk 0 "" run disk.toml --host-ticks 325 --view journal
-puts disk/disk.events grep -E ' (disk|trap|broken|halt)( |$)'
-# shellcheck disable=SC2016
-puts disk/disk.txt awk '$3 == "uart" { printf "%c", $4 }'
+run timer 0 "" run timer.toml --host-ticks 1200 --view journal
+puts timer/timer.txt uart
+
+run disk 0 "" run disk.toml --host-ticks 340 --view journal
+puts disk/disk.events events
+puts disk/disk.txt uart
 puts disk/disk.sum sha256sum
+
+run log 0 "" run log.toml --host-ticks 1000 --view journal
+puts log/log.txt uart
+
+# What was sent, received and dropped, guest by guest, with the first bytes of each frame.
+frames() {
+    traces | events | cut -c 1-80
+}
+
+# The guests do the same at every factor and on any slots: the second of two experiments has the same records as the first.
+run echo 0 "" run two-slots.toml --host-ticks 160 --view journal
+puts echo/echo.txt uart each
+puts echo/echo.frames frames
+traces <"$room/out" >"$room/first"
+run echo 0 "" run one-slot.toml --host-ticks 320 --view journal
+puts echo/echo.txt uart each
+puts "$room/first" traces
+
+run dilation 0 "" run eight-slots.toml --host-ticks 260 --view journal
+puts dilation/dilation.txt uart each
+traces <"$room/out" >"$room/first"
+run dilation 0 "" run one-slot.toml --host-ticks 2080 --view journal
+puts dilation/dilation.txt uart each
+puts "$room/first" traces
+
+run ring 0 "" run ring.toml --host-ticks 400 --view journal
+puts ring/ring.txt uart each
+
+run lossy 0 "" run lossy.toml --host-ticks 840 --view journal
+puts lossy/lossy.txt uart each
+puts lossy/lossy.frames frames
+
+run gossip 0 "" run gossip.toml --host-ticks 240 --view journal
+puts gossip/gossip.txt uart each
+
+name="sweep: sweep.sh"
+sweep/sweep.sh "$program" | diff sweep/sweep.txt -
+tell "$?" sweep/sweep.txt
 
 exit "$failed"

@@ -1,6 +1,6 @@
 /* Interrupts and exceptions (privileged manual, "Machine Interrupt Registers" and "mcause"), and waits for them.
 
-   A guest may wait for an interrupt without taking it: it stays in one line of thought, and `wait_for` is all it needs. Or it has handlers:
+   A guest may wait for an interrupt without taking it: nothing ever comes between its instructions, and `wait_for` is all it needs. Or it has handlers:
    it defines those of the functions below that it wants, enables their interrupts, and takes them from `interrupts_take` on. */
 #ifndef INTERRUPTS_H
 #define INTERRUPTS_H

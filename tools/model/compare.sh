@@ -52,4 +52,19 @@ for image in arithmetic csrs default_trap library traps; do
     same "$room" one.toml 600
 done
 
+# The load of `gen` as an experiment of its own, and the summary of both, where the program makes loads.
+for count in 2 4 32; do
+    tools/model/load "$count" "$room"
+    echo "load of $count guests:"
+    same "$room" load.toml 60
+    if "$program" gen "$count" --host-ticks 240 >"$room/gen" 2>/dev/null; then
+        if (cd "$room" && "$program" run load.toml --host-ticks 240) | cmp - "$room/gen"; then
+            echo "ok: gen $count"
+        else
+            echo "FAILED: gen $count"
+            failed=1
+        fi
+    fi
+done
+
 exit "$failed"
