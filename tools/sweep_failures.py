@@ -61,8 +61,8 @@ class Ended:
     calls: int
 
 
-def run_of(ticks: int) -> list[str]:
-    return ["run", "a.toml", "--host-ticks", str(ticks), "--view", "journal"]
+def run_of(ticks: int, view: str = "journal") -> list[str]:
+    return ["run", "a.toml", "--host-ticks", str(ticks), "--view", view]
 
 
 def run(program: Path, library: Path, command: Command, kind: str, at: int) -> Ended:
@@ -115,20 +115,19 @@ def sweep(program: Path, library: Path, command: Command) -> int:
     return bad
 
 
-def commands(generated: bool) -> list[Command]:
-    """The commands, one of a generated load where the program has those."""
+def commands() -> list[Command]:
+    """The commands."""
     elf = ONE_GUEST.replace('format = "flat"', 'format = "elf"')
     over = ONE_GUEST.replace("rate = 2", "rate = 3")
     files = {"pair": friendly_image(Machine(65536, 1, 1)), "disk": bytes(range(256)) * 8}
-    found = [
+    return [
         Command("one guest", run_of(4), {"a.toml": ONE_GUEST.encode(), "a.bin": JUMP}),
+        Command("the traces of one guest", run_of(4, "traces"), {"a.toml": ONE_GUEST.encode(), "a.bin": JUMP}),
         Command("one guest from an ELF file", run_of(4), {"a.toml": elf.encode(), "a.bin": hand_made()}),
         Command("a linked pair with a disk each", run_of(40), {"a.toml": PAIR.encode(), **files}),
         Command("a plan that is over", ["plan", "a.toml"], {"a.toml": over.encode()}),
+        Command("two generated guests", ["gen", "2", "--host-ticks", "40"], {}),
     ]
-    if generated:
-        found.append(Command("two generated guests", ["gen", "2", "--host-ticks", "40"], {}))
-    return found
 
 
 def main() -> int:
@@ -140,8 +139,7 @@ def main() -> int:
         os.chdir(room)
         library = Path(room, "fail_nth.so")
         subprocess.run(["cc", "-O2", "-Wall", "-shared", "-fPIC", "-o", library, TOP / "tools/fail_nth.c"], check=True)
-        generated = run(program, library, Command("", ["gen", "2", "--host-ticks", "0"], {}), "none", 0).status == 0
-        bad = sum(sweep(program, library, command) for command in commands(generated))
+        bad = sum(sweep(program, library, command) for command in commands())
         os.chdir("/")
     print(f"{bad} failed")
     return 1 if bad else 0
