@@ -786,7 +786,7 @@ version = 1
 factor = 1
 slot = [{ capacity = 100 }, { capacity = 40 }]
 guest = [
-  { name = 'a', image = 'sends-frame', format = 'flat', ram = 4096, rate = 100, slot = 0, nics = 1 },
+  { name = 'a', image = 'sends-frame-60', format = 'flat', ram = 4096, rate = 100, slot = 0, nics = 1 },
   { name = 'b', image = 'wait', format = 'flat', ram = 4096, rate = 1, slot = 1, nics = 1 },
 ]
 link = [{ a = 'a', b = 'b', bandwidth = 1000, delay = 12, queue = 1 }]
@@ -795,6 +795,7 @@ diecast 1 factor 1 slots 2 guests 2 host 1
 host 1
 slot 0
 run 0 units 64 done 1
+0 0 sent 0 60 000000000000000000000000000000000000000000000000000000000000000000000000000000000000000000000000000000000000000000000000
 run 0 units 11 done 12
 slot 1
 run 1 units 1 done 1
