@@ -1,5 +1,5 @@
 -- The text of a run in each view.
-use Rattle.std.specs.Prelude.{ℕ, List}
+use Rattle.std.specs.Prelude.{◌≡◌, ℕ, List}
 use Rattle.trace_rec.specs.declared.rec.Rec.{Rec}
 use Rattle.trace_rec.specs.declared.view.View.{View}
 use Rattle.trace_rec.specs.declared.view.View.TheVariants.{Journal, Events, Traces, Summary}
@@ -21,3 +21,7 @@ text Journal h r es = entries_text Journal h es
 text Events h r es = entries_text Events h es
 text Traces h r es = guests_text traces_title guest_trace h (traces_shown h r)
 text Summary h r es = guests_text summary_title guest_summary h (traces_shown h r)
+
+-- the view is a text of all guests, with this title and this of each guest
+abbrev pub ShowsGuests : View → List ℕ → (ℕ → List ℕ → List Rec → List ℕ) → Type 0
+ShowsGuests view title shown = (h : Head) (r : Rules) (es : List Entry) → text view h r es ≡ guests_text title shown h (traces_shown h r)

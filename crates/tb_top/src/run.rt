@@ -2,6 +2,7 @@
 ghost use Rattle.std.specs.Prelude.{◌≡◌, ◌≤◌, ◌⊎◌, ℕ, List, map, length, false, IfOk, take};
 ghost use Rattle.exp_file.specs.declared.experiment.Experiment.{Experiment};
 ghost use Rattle.exp_file.specs.WellFormed.{IsWellFormed};
+ghost use Rattle.trace_rec.specs.declared.view.View.{View};
 ghost use Rattle.lookahead_core.specs.Synchronous.{Setup};
 ghost use Rattle.slot_sched.specs.BenchWords.{BenchStands, IsAtTick, plan_of, ticks_made, bench_failed, members_of};
 ghost use Rattle.slot_sched.specs.Legal.{start};
@@ -10,12 +11,14 @@ ghost use Rattle.bench_build.specs.Inputs.{Inputs};
 ghost use Rattle.bench_build.specs.Setups.{setup, plan};
 ghost use Rattle.tb_io.specs.Causes.{WriteCause};
 ghost use Rattle.host_journal.specs.Entries.{Entry};
+ghost use Rattle.host_journal.specs.GuestKeepers.{head_of, IsEmpty};
 ghost use Rattle.tb_top.specs.Runs.{IsHead, Shows, RunPuts, Runs};
+ghost use Rattle.tb_top.specs.Texts.{ShowsGuests};
 
 use dev_face::Device;
 use exp_file::{Experiment, GuestSpec};
 use guest_machine::Machine;
-use host_journal::{Head, JournalKeep, Show, SummaryKeep, TraceKeep};
+use host_journal::{GuestKeep, Head, Held, JournalKeep, Show, SummaryKeep, TraceKeep};
 use lookahead_core::Node;
 use slot_sched::{Bench, TickFault};
 use std::alloc::Global;
@@ -114,10 +117,9 @@ fn put_lines<O: Sink, D: Device>(
     }
 }
 
-/// Runs a bench and puts the traces of its guests.
-fn put_traces<O: Sink, D: Device>(
-    alloc: Global,
-    head: Head,
+/// Runs a bench and puts what a keeper of each guest's first ticks shows, which was just made.
+fn put_guests<O: Sink, D: Device, H: Held>(
+    keep: GuestKeep<H>,
     bench: Bench<Machine<D>>,
     host_ticks: u64,
     out: &mut O,
@@ -125,43 +127,16 @@ fn put_traces<O: Sink, D: Device>(
     requires going { bench_failed bench ≡ false }
     requires fresh { ticks_made bench ≡ 0 }
     requires few { host_ticks ≤ 1000000 }
-    requires factor { 1 ≤ head.factor }
-    requires guests { length head.names.items ≤ 32 }
-    requires members { members_of bench ≡ length head.names.items }
-    ensures runs { (e : Experiment) (slots : List ℕ) (i : Inputs) → IsHead e host_ticks head →
+    requires members { members_of bench ≡ length (head_of keep).names.items }
+    requires empty { IsEmpty keep }
+    ensures runs { (view : View) (e : Experiment) (slots : List ℕ) (i : Inputs) → IsHead e host_ticks (head_of keep) →
+        ShowsGuests view H.title H.shown →
         BenchStands (setup e i) bench host_ticks → IsAtTick (setup e i) bench host_ticks start → plan_of bench host_ticks ≡ plan e slots host_ticks →
-        Runs View.Traces e slots i host_ticks (O.taken out.old) (O.taken out.new) result }
+        Runs view e slots i host_ticks (O.taken out.old) (O.taken out.new) result }
     ensures cause { WriteCause (O.faults out.old) (O.faults out.new) result }
 {
-    match TraceKeep::new(alloc, head) {
-        Ok(mut keep) => put_run(&mut keep, bench, host_ticks, out),
-        Err(_) => Err(WriteErr::NoMemory),
-    }
-}
-
-/// Runs a bench and puts the summary of its guests.
-fn put_summary<O: Sink, D: Device>(
-    alloc: Global,
-    head: Head,
-    bench: Bench<Machine<D>>,
-    host_ticks: u64,
-    out: &mut O,
-) -> Result<(), WriteErr>
-    requires going { bench_failed bench ≡ false }
-    requires fresh { ticks_made bench ≡ 0 }
-    requires few { host_ticks ≤ 1000000 }
-    requires factor { 1 ≤ head.factor }
-    requires guests { length head.names.items ≤ 32 }
-    requires members { members_of bench ≡ length head.names.items }
-    ensures runs { (e : Experiment) (slots : List ℕ) (i : Inputs) → IsHead e host_ticks head →
-        BenchStands (setup e i) bench host_ticks → IsAtTick (setup e i) bench host_ticks start → plan_of bench host_ticks ≡ plan e slots host_ticks →
-        Runs View.Summary e slots i host_ticks (O.taken out.old) (O.taken out.new) result }
-    ensures cause { WriteCause (O.faults out.old) (O.faults out.new) result }
-{
-    match SummaryKeep::new(alloc, head) {
-        Ok(mut keep) => put_run(&mut keep, bench, host_ticks, out),
-        Err(_) => Err(WriteErr::NoMemory),
-    }
+    let mut keep = keep;
+    put_run(&mut keep, bench, host_ticks, out)
 }
 
 /// Runs a bench for so many host ticks, and puts a view of it.
@@ -190,7 +165,13 @@ pub(crate) fn run<O: Sink, D: Device>(
     };
     match view {
         View::Journal | View::Events => put_lines(alloc, head, view, bench, host_ticks, out),
-        View::Traces => put_traces(alloc, head, bench, host_ticks, out),
-        View::Summary => put_summary(alloc, head, bench, host_ticks, out),
+        View::Traces => match TraceKeep::new(alloc, head) {
+            Ok(keep) => put_guests(keep, bench, host_ticks, out),
+            Err(_) => Err(WriteErr::NoMemory),
+        },
+        View::Summary => match SummaryKeep::new(alloc, head) {
+            Ok(keep) => put_guests(keep, bench, host_ticks, out),
+            Err(_) => Err(WriteErr::NoMemory),
+        },
     }
 }

@@ -1,11 +1,17 @@
 -- Each view is put by its keeper, under the head of the run.
+use Rattle.tb_top.proofs.Common.{sym, refl, subst, IsHead}
+use Rattle.trace_rec.specs.declared.view.View.TheVariants.{Traces, Summary}
 use Rattle.tb_top.proofs.run.run.Goals as goal
 
 pub returns-in-Journal-clause-runs : goal.returns-in-Journal-clause-runs
 returns-in-Journal-clause-runs g c = λ slots i stands tick plans. c.put_lines.ensures.runs c.args.e.now slots i c.in-Ok.ensures stands tick plans
 
-pub returns-in-Traces-clause-runs : goal.returns-in-Traces-clause-runs
-returns-in-Traces-clause-runs g c = λ slots i stands tick plans. rw c.in-Traces.is (c.put_traces.ensures.runs c.args.e.now slots i c.in-Ok.ensures stands tick plans)
+pub returns-in-Ok-new-clause-runs : goal.returns-in-Ok-new-clause-runs
+returns-in-Ok-new-clause-runs g c = λ slots i stands tick plans.
+    let head = subst (IsHead c.args.e.now c.args.host_ticks) (sym c.in-Ok-new.ensures.head) c.in-Ok.ensures in
+    rw c.in-Traces.is (c.put_guests.ensures.runs Traces c.args.e.now slots i head (λ h r es. refl) stands tick plans)
 
-pub returns-in-Summary-clause-runs : goal.returns-in-Summary-clause-runs
-returns-in-Summary-clause-runs g c = λ slots i stands tick plans. rw c.in-Summary.is (c.put_summary.ensures.runs c.args.e.now slots i c.in-Ok.ensures stands tick plans)
+pub returns-in-Ok-new-2-clause-runs : goal.returns-in-Ok-new-2-clause-runs
+returns-in-Ok-new-2-clause-runs g c = λ slots i stands tick plans.
+    let head = subst (IsHead c.args.e.now c.args.host_ticks) (sym c.in-Ok-new-2.ensures.head) c.in-Ok.ensures in
+    rw c.in-Summary.is (c.put_guests-in-Ok-new-2.ensures.runs Summary c.args.e.now slots i head (λ h r es. refl) stands tick plans)
