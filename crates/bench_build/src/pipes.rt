@@ -1,6 +1,5 @@
 //! The pipes at the nics of a machine.
 ghost use Rattle.std.specs.Prelude.{◌≡◌, IfOk};
-ghost use Rattle.exp_file.specs.Links.{has_end};
 ghost use Rattle.bench_build.specs.Setups.{pipe_of, pipes_at};
 
 use exp_file::LinkSpec;
@@ -8,20 +7,13 @@ use link_pipe::PipeParams;
 use std::alloc::Global;
 use tb_base::{ItemList, NoMemory};
 
-/// Whether a link has an end at a nic of a guest.
-fn has_end(link: &LinkSpec, guest: u32, nic: u32) -> bool
-    ensures { result ≡ has_end guest nic link.now }
-{
-    link.a == guest && link.a_nic == nic || link.b == guest && link.b_nic == nic
-}
-
 /// The pipe at a nic of a guest, if a link is there.
 fn pipe_at(links: &[LinkSpec], guest: u32, nic: u32) -> Option<PipeParams>
     ensures { result ≡ pipe_of links.now guest nic }
 {
     links
         .iter()
-        .find(|link| has_end(link, guest, nic))
+        .find(|link| link.has_end(guest, nic))
         .map(|link| PipeParams {
             bandwidth: link.bandwidth,
             queue: link.queue,

@@ -10,7 +10,7 @@ use Rattle.toml.specs.declared.value.Value.{Value}
 use Rattle.exp_file.specs.declared.exp_why.ExpWhy.{ExpWhy}
 use Rattle.exp_file.specs.declared.exp_why.ExpWhy.TheVariants.{Range, NotToml}
 use Rattle.exp_file.specs.declared.section.Section.TheVariants.{Top}
-use Rattle.exp_file.specs.Rows.{Table, fault_at, items_len, sized, some_of}
+use Rattle.exp_file.specs.Keys.{Table, fault_at, items_len, sized, some_of}
 use Rattle.exp_file.specs.Reading.{document, of_document, reading}
 
 some_if : (t : Bool) (o p : Option Members) → t ≡ true → o ≡ p → (if t then o else None) ≡ p

@@ -14,8 +14,8 @@ use Rattle.exp_file.specs.declared.form.Form.TheVariants.{GuestName, ImageName}
 use Rattle.exp_file.specs.declared.guest_spec.GuestSpec.{GuestSpec}
 use Rattle.exp_file.specs.declared.section.Section.TheVariants.{Guest}
 use Rattle.exp_file.specs.Arrays.{TopItems, arrays_of}
-use Rattle.exp_file.specs.Rows.{◌>>=◌, Table, items_len, known, number, number_or, number_in, within, with_default, maybe_number, multiple, text, format, array, some_array, array_in, at_key, sized, some_of}
-use Rattle.exp_file.specs.Tables.{each, slot_step, row, guest_of, guest_step, once}
+use Rattle.exp_file.specs.Keys.{◌>>=◌, Table, items_len, known, number, number_or, number_in, within, with_default, maybe_number, multiple, text, format, array, some_array, array_in, at_key, sized, some_of}
+use Rattle.exp_file.specs.Tables.{each, slot_step, element, guest_of, guest_step, once}
 use Rattle.exp_file.specs.Disks.{disk_step}
 use Rattle.exp_file.specs.Links.{link_step}
 use Rattle.exp_file.specs.Reading.{reading, of_document, document, lists_of, top_of}
@@ -153,7 +153,7 @@ once_holds P false x f h = h
 few_step : (slots : ℕ) (done : List GuestSpec) (d : Data) → Holds FewNics (guest_step slots done d)
 unfolding guest_step once
 few_step slots done d =
-    after FewNics (row Guest (length done) d) _ (λ t _.
+    after FewNics (element Guest (length done) d) _ (λ t _.
     after FewNics (guest_of slots t) _ (λ g read.
     once_holds FewNics _ g _ (of_read FewNics (guest_of slots t) g read (few_guest slots t))))
 

@@ -14,7 +14,7 @@ use Rattle.std.specs.String.{string_cmp}
 use Rattle.toml.specs.Data.{Data, Members, no_members, member}
 use Rattle.toml.specs.View.{view, members_view}
 use Rattle.toml.specs.declared.value.Value.{Value}
-use Rattle.exp_file.specs.Rows.{is_among, first_unknown}
+use Rattle.exp_file.specs.Keys.{is_among, first_unknown}
 use Rattle.exp_file.specs.Unknown.{has_key, IsLeastUnknown, AreKnown}
 
 abbrev pub nows : List (Bor (List ℕ)) → List (List ℕ)

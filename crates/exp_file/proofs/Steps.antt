@@ -7,7 +7,7 @@ use Rattle.toml.specs.declared.value.Value.{Value}
 use Rattle.exp_file.specs.declared.exp_fault.ExpErr.{ExpErr}
 use Rattle.exp_file.specs.declared.exp_fault.ExpErr.TheVariants as errors
 use Rattle.exp_file.specs.declared.exp_fault.ExpFault.{ExpFault}
-use Rattle.exp_file.specs.Rows.{Fails, ◌>>=◌}
+use Rattle.exp_file.specs.Keys.{Fails, ◌>>=◌}
 use Rattle.exp_file.specs.Tables.{each}
 
 each_step : {A : Type 0} (step : List A → Data → Result A ExpFault) (done : List A) (values : List Value) (i : ℕ) (v : Value) → i < length values → v ≡ get_or values i v

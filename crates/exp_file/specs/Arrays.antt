@@ -6,7 +6,7 @@ use Rattle.exp_file.specs.declared.exp_fault.ExpErr.{ExpErr}
 use Rattle.exp_file.specs.declared.exp_fault.ExpFault.{ExpFault}
 use Rattle.exp_file.specs.declared.exp_why.ExpWhy.TheVariants.{NoSlot, NoGuest}
 use Rattle.exp_file.specs.declared.arrays.Arrays.{Arrays}
-use Rattle.exp_file.specs.Rows.{◌>>=◌, Fails, Table, array, some_array}
+use Rattle.exp_file.specs.Keys.{◌>>=◌, Fails, Table, array, some_array}
 
 -- what stands in each array
 pub record TopItems : Type 0 where

@@ -9,8 +9,8 @@ use Rattle.exp_file.specs.declared.section.Section.TheVariants.{Disk}
 use Rattle.exp_file.specs.declared.form.Form.TheVariants.{AnyText, ImageName}
 use Rattle.exp_file.specs.declared.guest_spec.GuestSpec.{GuestSpec}
 use Rattle.exp_file.specs.declared.disk_spec.DiskSpec.{DiskSpec}
-use Rattle.exp_file.specs.Rows.{◌>>=◌, Table, fault_at, number, number_or, text, maybe_text, known}
-use Rattle.exp_file.specs.Tables.{row}
+use Rattle.exp_file.specs.Keys.{◌>>=◌, Table, fault_at, number, number_or, text, maybe_text, known}
+use Rattle.exp_file.specs.Tables.{element}
 
 -- the number of the guest that has a name
 abbrev pub guest_named : List GuestSpec → List ℕ → Option ℕ
@@ -49,4 +49,4 @@ disk_of guests done t = do
   Ok (record { guest = guest; sectors = sectors; image = image; base = base; per_sector = per_sector; seek_num = seek_num; seek_den = seek_den })
 
 unfoldable pub disk_step : List GuestSpec → List DiskSpec → Data → Result DiskSpec ExpFault
-disk_step guests done d = row Disk (length done) d >>= disk_of guests done
+disk_step guests done d = element Disk (length done) d >>= disk_of guests done

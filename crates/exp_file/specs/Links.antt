@@ -8,8 +8,8 @@ use Rattle.exp_file.specs.declared.section.Section.TheVariants.{Link}
 use Rattle.exp_file.specs.declared.guest_spec.GuestSpec.{GuestSpec}
 use Rattle.exp_file.specs.declared.link_spec.LinkSpec.{LinkSpec}
 use Rattle.exp_file.specs.declared.links.LinkFields.{LinkFields}
-use Rattle.exp_file.specs.Rows.{◌>>=◌, Table, fault_at, number, number_or, known}
-use Rattle.exp_file.specs.Tables.{row}
+use Rattle.exp_file.specs.Keys.{◌>>=◌, Table, fault_at, number, number_or, known}
+use Rattle.exp_file.specs.Tables.{element}
 use Rattle.exp_file.specs.Disks.{guest_at, found}
 
 -- how many nics the guest of a number has
@@ -67,6 +67,6 @@ link_ends guests done t f = do
 
 unfoldable pub link_step : List GuestSpec → List LinkSpec → Data → Result LinkSpec ExpFault
 link_step guests done d = do
-  t ← row Link (length done) d
+  t ← element Link (length done) d
   f ← link_fields guests t
   link_ends guests done t f

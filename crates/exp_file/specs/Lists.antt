@@ -4,7 +4,7 @@ use Rattle.tb_base.specs.Items.{Items}
 use Rattle.exp_file.specs.declared.exp_fault.ExpErr.{ExpErr}
 use Rattle.exp_file.specs.declared.exp_fault.ExpFault.{ExpFault}
 use Rattle.exp_file.specs.declared.experiment.Experiment.{Experiment}
-use Rattle.exp_file.specs.Rows.{Fails}
+use Rattle.exp_file.specs.Keys.{Fails}
 
 -- items with no room for more
 abbrev pub listed : {A : Type 0} → List A → Items A

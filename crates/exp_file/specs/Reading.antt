@@ -7,7 +7,7 @@ use Rattle.exp_file.specs.declared.exp_fault.ExpFault.{ExpFault}
 use Rattle.exp_file.specs.declared.exp_why.ExpWhy.TheVariants.{NotToml}
 use Rattle.exp_file.specs.declared.section.Section.TheVariants.{Top}
 use Rattle.exp_file.specs.declared.experiment.Experiment.{Experiment}
-use Rattle.exp_file.specs.Rows.{◌>>=◌, Table, number, known}
+use Rattle.exp_file.specs.Keys.{◌>>=◌, Table, number, known}
 use Rattle.exp_file.specs.Arrays.{TopItems, arrays_of}
 use Rattle.exp_file.specs.Lists.{listed}
 use Rattle.exp_file.specs.Tables.{each, slot_step, guest_step}

@@ -10,15 +10,15 @@ use Rattle.exp_file.specs.declared.section.Section.TheVariants.{Slot, Guest}
 use Rattle.exp_file.specs.declared.form.Form.TheVariants.{GuestName, ImageName}
 use Rattle.exp_file.specs.declared.slot_spec.SlotSpec.{SlotSpec}
 use Rattle.exp_file.specs.declared.guest_spec.GuestSpec.{GuestSpec}
-use Rattle.exp_file.specs.Rows.{◌>>=◌, Table, fault_at, number, number_or, maybe_number, multiple, text, known, format}
+use Rattle.exp_file.specs.Keys.{◌>>=◌, Table, fault_at, number, number_or, maybe_number, multiple, text, known, format}
 
 -- the table that an item of an array is
 abbrev pub table_or : Section → ℕ → Option Members → Result Table ExpFault
 table_or s i None = Err (record { why = WrongKind; section = s; index = i; key = [] })
 table_or s i (Some ms) = Ok (record { section = s; index = i; members = ms })
 
-unfoldable pub row : Section → ℕ → Data → Result Table ExpFault
-row s i d = table_or s i (as_table d)
+unfoldable pub element : Section → ℕ → Data → Result Table ExpFault
+element s i d = table_or s i (as_table d)
 
 -- the tables of an array after those that were read, in order
 abbrev pub each : {A : Type 0} → (List A → Data → Result A ExpFault) → List A → Items → Result (List A) ExpFault
@@ -32,7 +32,7 @@ slot_of t = do
   Ok (record { capacity = capacity })
 
 unfoldable pub slot_step : List SlotSpec → Data → Result SlotSpec ExpFault
-slot_step done d = row Slot (length done) d >>= slot_of
+slot_step done d = element Slot (length done) d >>= slot_of
 
 unfoldable pub guest_of : ℕ → Table → Result GuestSpec ExpFault
 guest_of slots t = do
@@ -57,6 +57,6 @@ once done t g = if is_named g.name done then Err (fault_at t (codes "name") Twic
 
 unfoldable pub guest_step : ℕ → List GuestSpec → Data → Result GuestSpec ExpFault
 guest_step slots done d = do
-  t ← row Guest (length done) d
+  t ← element Guest (length done) d
   g ← guest_of slots t
   once done t g

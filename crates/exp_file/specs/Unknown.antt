@@ -4,7 +4,7 @@ use Rattle.std.specs.Cmp.Lexicographic.{slice_cmp}
 use Rattle.std.specs.Ordering.{nat_cmp, is_le}
 use Rattle.std.specs.Str.{bytes_eq}
 use Rattle.toml.specs.Data.{Members, no_members, member}
-use Rattle.exp_file.specs.Rows.{is_among}
+use Rattle.exp_file.specs.Keys.{is_among}
 
 -- whether a table has a key
 abbrev pub has_key : List ℕ → Members → Bool

@@ -8,7 +8,7 @@ use Rattle.exp_file.specs.declared.disk_spec.DiskSpec.{DiskSpec}
 use Rattle.exp_file.specs.declared.link_spec.LinkSpec.{LinkSpec}
 use Rattle.exp_file.specs.declared.links.LinkFields.{LinkFields}
 use Rattle.exp_file.specs.declared.experiment.Experiment.{Experiment}
-use Rattle.exp_file.specs.Rows.{is_name_byte, is_not_zero}
+use Rattle.exp_file.specs.Keys.{is_name_byte, is_not_zero}
 use Rattle.exp_file.specs.Disks.{disks_of}
 use Rattle.exp_file.specs.Links.{nics_of, is_used, ends_at}
 

@@ -1,11 +1,11 @@
 //! The arrays of a file's tables.
 ghost use Rattle.std.specs.Prelude.{IfOk};
 ghost use Rattle.exp_file.specs.Arrays.{arrays_of, ArraysGive, AreSized};
-ghost use Rattle.exp_file.specs.RowOf.{table_at};
+ghost use Rattle.exp_file.specs.TableOf.{table_at};
 
 use crate::exp_fault::ExpErr;
 use crate::exp_why::ExpWhy;
-use crate::rows::Row;
+use crate::file_table::FileTable;
 use tb_base::limits::{DISKS, GUESTS, LINKS, SLOTS};
 use toml::Value;
 
@@ -20,14 +20,14 @@ pub(crate) struct Arrays<'a> {
 
 /// The arrays of a file's own table.
 #[tactic(auto, unfolding(crate::specs::Arrays::arrays_of))]
-pub(crate) fn read_arrays<'a>(row: &'a Row<'_>) -> Result<Arrays<'a>, ExpErr>
-    ensures given { ArraysGive result (arrays_of (table_at row.now.section row.now.index row.now.table.now)) }
+pub(crate) fn read_arrays<'a>(element: &'a FileTable<'_>) -> Result<Arrays<'a>, ExpErr>
+    ensures given { ArraysGive result (arrays_of (table_at element.now.section element.now.index element.now.table.now)) }
     ensures sized { IfOk result AreSized }
 {
-    let slots = row.some_array("slot", SLOTS, ExpWhy::NoSlot)?;
-    let guests = row.some_array("guest", GUESTS, ExpWhy::NoGuest)?;
-    let disks = row.array("disk", DISKS)?;
-    let links = row.array("link", LINKS)?;
+    let slots = element.some_array("slot", SLOTS, ExpWhy::NoSlot)?;
+    let guests = element.some_array("guest", GUESTS, ExpWhy::NoGuest)?;
+    let disks = element.array("disk", DISKS)?;
+    let links = element.array("link", LINKS)?;
     Ok(Arrays {
         slots,
         guests,

@@ -1,19 +1,19 @@
 //! The disks, and the guests that names stand for.
 ghost use Rattle.std.specs.Prelude.{◌≡◌, ◌≤◌, ◌<◌, length, IfOk, IfSome, Some};
 ghost use Rattle.exp_file.specs.Disks.{guest_named, guest_at, found, disks_of, with_room, disk_of};
-ghost use Rattle.exp_file.specs.RowOf.{table_at};
-ghost use Rattle.exp_file.specs.Rows.{Gives};
+ghost use Rattle.exp_file.specs.TableOf.{table_at};
+ghost use Rattle.exp_file.specs.Keys.{Gives};
 ghost use Rattle.exp_file.specs.WellFormed.{IsDisk};
 
 use crate::disk_spec::DiskSpec;
 use crate::each::Step;
 use crate::exp_fault::ExpErr;
 use crate::exp_why::ExpWhy;
+use crate::file_table::FileTable;
 use crate::form::Form;
 use crate::guest_spec::GuestSpec;
-use crate::rows::Row;
 use crate::section::Section;
-use crate::slots::row;
+use crate::slots::element;
 use std::alloc::Global;
 use tb_base::limits::{BASE, DISKS_PER_GUEST, PER_SECTOR, SECTORS, SEEK_DEN, SEEK_NUM};
 use toml::Value;
@@ -30,14 +30,14 @@ fn guest_named(guests: &[GuestSpec], name: &str) -> Option<usize>
 #[tactic(auto, unfolding(crate::specs::Disks::guest_at))]
 pub(crate) fn guest_at(
     guests: &[GuestSpec],
-    row: &Row<'_>,
+    element: &FileTable<'_>,
     key: &str,
 ) -> Result<Option<u32>, ExpErr>
     requires { length guests.now ≤ 32 }
-    ensures given { Gives result (guest_at (table_at row.now.section row.now.index row.now.table.now) guests.now key.now) }
+    ensures given { Gives result (guest_at (table_at element.now.section element.now.index element.now.table.now) guests.now key.now) }
     ensures bound { IfOk result (λ o. IfSome o (λ g. g < length guests.now)) }
 {
-    let name = row.text(key, Form::AnyText)?;
+    let name = element.text(key, Form::AnyText)?;
     match guest_named(guests, name) {
         Some(number) => Ok(Some(number as u32)),
         None => Ok(None),
@@ -46,13 +46,13 @@ pub(crate) fn guest_at(
 
 /// Refuses a name that no guest has.
 #[tactic(auto, unfolding(crate::specs::Disks::found))]
-pub(crate) fn found(row: &Row<'_>, key: &str, named: Option<u32>) -> Result<u32, ExpErr>
-    ensures given { Gives result (found (table_at row.now.section row.now.index row.now.table.now) key.now named) }
+pub(crate) fn found(element: &FileTable<'_>, key: &str, named: Option<u32>) -> Result<u32, ExpErr>
+    ensures given { Gives result (found (table_at element.now.section element.now.index element.now.table.now) key.now named) }
     ensures same { IfOk result (λ g. named ≡ Some g) }
 {
     match named {
         Some(g) => Ok(g),
-        None => Err(row.fault(key, ExpWhy::NoSuchGuest)),
+        None => Err(element.fault(key, ExpWhy::NoSuchGuest)),
     }
 }
 
@@ -63,15 +63,15 @@ fn disks_of(g: u32, disks: &[DiskSpec]) -> usize
 }
 
 #[tactic(auto, unfolding(crate::specs::Disks::with_room))]
-fn with_room(done: &[DiskSpec], row: &Row<'_>, g: u32) -> Result<u32, ExpErr>
-    ensures given { Gives result (with_room done.now (table_at row.now.section row.now.index row.now.table.now) g) }
+fn with_room(done: &[DiskSpec], element: &FileTable<'_>, g: u32) -> Result<u32, ExpErr>
+    ensures given { Gives result (with_room done.now (table_at element.now.section element.now.index element.now.table.now) g) }
     ensures same { IfOk result (λ x. x ≡ g) }
     ensures room { IfOk result (λ x. disks_of g done.now < 2) }
 {
     if disks_of(g, done) < DISKS_PER_GUEST {
         Ok(g)
     } else {
-        Err(row.fault("guest", ExpWhy::Range))
+        Err(element.fault("guest", ExpWhy::Range))
     }
 }
 
@@ -80,23 +80,23 @@ fn disk_of(
     alloc: Global,
     guests: &[GuestSpec],
     done: &[DiskSpec],
-    row: &Row<'_>,
+    element: &FileTable<'_>,
 ) -> Result<DiskSpec, ExpErr>
     requires { length guests.now ≤ 32 }
-    ensures given { Gives result (disk_of guests.now done.now (table_at row.now.section row.now.index row.now.table.now)) }
+    ensures given { Gives result (disk_of guests.now done.now (table_at element.now.section element.now.index element.now.table.now)) }
     ensures well { IfOk result (IsDisk (length guests.now)) }
     ensures room { IfOk result (λ d. disks_of d.guest done.now < 2) }
 {
-    row.known()?;
-    let named = guest_at(guests, row, "guest")?;
-    let sectors = row.number("sectors", 1, u64::from(SECTORS))?;
-    let image = row.maybe_name(alloc, "image", Form::ImageName)?;
-    let base = row.number("base", 1, BASE)?;
-    let per_sector = row.number_or("per_sector", 0, PER_SECTOR, 0)?;
-    let seek_num = row.number_or("seek_num", 0, SEEK_NUM, 0)?;
-    let seek_den = row.number_or("seek_den", 1, SEEK_DEN, 1)?;
-    let g = found(row, "guest", named)?;
-    let guest = with_room(done, row, g)?;
+    element.known()?;
+    let named = guest_at(guests, element, "guest")?;
+    let sectors = element.number("sectors", 1, u64::from(SECTORS))?;
+    let image = element.maybe_name(alloc, "image", Form::ImageName)?;
+    let base = element.number("base", 1, BASE)?;
+    let per_sector = element.number_or("per_sector", 0, PER_SECTOR, 0)?;
+    let seek_num = element.number_or("seek_num", 0, SEEK_NUM, 0)?;
+    let seek_den = element.number_or("seek_den", 1, SEEK_DEN, 1)?;
+    let g = found(element, "guest", named)?;
+    let guest = with_room(done, element, g)?;
     Ok(DiskSpec {
         guest,
         sectors: sectors as u32,
@@ -127,7 +127,7 @@ impl Step for Disks<'_> {
 
     #[tactic(auto, unfolding(crate::specs::Disks::disk_step))]
     fn step(&self, done: &[DiskSpec], value: &Value) -> Result<DiskSpec, ExpErr> {
-        let row = row(Section::Disk, done.len() as u32, value)?;
-        disk_of(self.alloc, self.guests, done, &row)
+        let element = element(Section::Disk, done.len() as u32, value)?;
+        disk_of(self.alloc, self.guests, done, &element)
     }
 }

@@ -4,7 +4,7 @@ ghost use Rattle.toml.specs.Data.{Data};
 ghost use Rattle.toml.specs.View.{view, items_view};
 ghost use Rattle.exp_file.specs.declared.exp_fault.ExpFault.{ExpFault};
 ghost use Rattle.exp_file.specs.Lists.{ListGives};
-ghost use Rattle.exp_file.specs.Rows.{Gives};
+ghost use Rattle.exp_file.specs.Keys.{Gives};
 ghost use Rattle.exp_file.specs.Tables.{each};
 
 use crate::exp_fault::ExpErr;

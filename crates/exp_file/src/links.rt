@@ -1,32 +1,26 @@
 //! The links.
 ghost use Rattle.std.specs.Prelude.{◌≡◌, ◌≤◌, ◌<◌, length, Some, IfOk, false};
-ghost use Rattle.exp_file.specs.Links.{nics_of, has_end, is_used, is_same, free_nic, end_of, link_fields, link_ends};
-ghost use Rattle.exp_file.specs.RowOf.{table_at};
-ghost use Rattle.exp_file.specs.Rows.{Gives};
+ghost use Rattle.exp_file.specs.Links.{nics_of, is_used, is_same, free_nic, end_of, link_fields, link_ends};
+ghost use Rattle.exp_file.specs.TableOf.{table_at};
+ghost use Rattle.exp_file.specs.Keys.{Gives};
 ghost use Rattle.exp_file.specs.WellFormed.{IsLink, IsFree, AreFields};
 
 use crate::disks::{found, guest_at};
 use crate::each::Step;
 use crate::exp_fault::ExpErr;
 use crate::exp_why::ExpWhy;
+use crate::file_table::FileTable;
 use crate::guest_spec::GuestSpec;
 use crate::link_spec::LinkSpec;
-use crate::rows::Row;
 use crate::section::Section;
-use crate::slots::row;
+use crate::slots::element;
 use tb_base::limits::{BANDWIDTH, DELAY, NICS, QUEUE};
 use toml::Value;
-
-fn has_end(g: u32, nic: u32, link: &LinkSpec) -> bool
-    ensures { result ≡ has_end g nic link.now }
-{
-    link.a == g && link.a_nic == nic || link.b == g && link.b_nic == nic
-}
 
 fn is_used(links: &[LinkSpec], g: u32, nic: u32) -> bool
     ensures { result ≡ is_used links.now g nic }
 {
-    links.iter().any(|link| has_end(g, nic, link))
+    links.iter().any(|link| link.has_end(g, nic))
 }
 
 fn is_same(other: Option<(u32, u32)>, g: u32, nic: u32) -> bool
@@ -48,16 +42,22 @@ fn nics_of(guests: &[GuestSpec], g: u32) -> u32
 }
 
 #[tactic(auto, unfolding(crate::specs::Links::free_nic))]
-fn free_nic(row: &Row<'_>, key: &str, nics: u32, nic: u32, taken: bool) -> Result<u32, ExpErr>
-    ensures given { Gives result (free_nic (table_at row.now.section row.now.index row.now.table.now) key.now nics nic taken) }
+fn free_nic(
+    element: &FileTable<'_>,
+    key: &str,
+    nics: u32,
+    nic: u32,
+    taken: bool,
+) -> Result<u32, ExpErr>
+    ensures given { Gives result (free_nic (table_at element.now.section element.now.index element.now.table.now) key.now nics nic taken) }
     ensures bound { IfOk result (λ _. nic < nics) }
     ensures free { IfOk result (λ _. taken ≡ false) }
 {
     if nic >= nics {
-        return Err(row.fault(key, ExpWhy::NicRange));
+        return Err(element.fault(key, ExpWhy::NicRange));
     }
     if taken {
-        return Err(row.fault(key, ExpWhy::NicTaken));
+        return Err(element.fault(key, ExpWhy::NicTaken));
     }
     Ok(nic)
 }
@@ -72,23 +72,23 @@ struct Around<'a> {
 
 #[tactic(auto, unfolding(crate::specs::Links::end_of))]
 fn end_of(
-    row: &Row<'_>,
+    element: &FileTable<'_>,
     around: &Around<'_>,
     key: &str,
     nic_key: &str,
     named: Option<u32>,
     nic: u32,
 ) -> Result<u32, ExpErr>
-    ensures given { Gives result (end_of (table_at row.now.section row.now.index row.now.table.now) around.now.guests.now
+    ensures given { Gives result (end_of (table_at element.now.section element.now.index element.now.table.now) around.now.guests.now
         around.now.done.now around.now.other key.now nic_key.now named nic) }
     ensures same { IfOk result (λ g. named ≡ Some g) }
     ensures nic { IfOk result (λ g. nic < nics_of around.now.guests.now g) }
     ensures unused { IfOk result (λ g. is_used around.now.done.now g nic ≡ false) }
     ensures other { IfOk result (λ g. is_same around.now.other g nic ≡ false) }
 {
-    let g = found(row, key, named)?;
+    let g = found(element, key, named)?;
     let taken = is_used(around.done, g, nic) || is_same(around.other, g, nic);
-    free_nic(row, nic_key, nics_of(around.guests, g), nic, taken)?;
+    free_nic(element, nic_key, nics_of(around.guests, g), nic, taken)?;
     Ok(g)
 }
 
@@ -105,19 +105,19 @@ pub struct LinkFields {
 }
 
 #[tactic(auto, unfolding(crate::specs::Links::link_fields))]
-fn link_fields(guests: &[GuestSpec], row: &Row<'_>) -> Result<LinkFields, ExpErr>
+fn link_fields(guests: &[GuestSpec], element: &FileTable<'_>) -> Result<LinkFields, ExpErr>
     requires { length guests.now ≤ 32 }
-    ensures given { Gives result (link_fields guests.now (table_at row.now.section row.now.index row.now.table.now)) }
+    ensures given { Gives result (link_fields guests.now (table_at element.now.section element.now.index element.now.table.now)) }
     ensures well { IfOk result (AreFields (length guests.now)) }
 {
-    row.known()?;
-    let a = guest_at(guests, row, "a")?;
-    let a_nic = row.number_or("a_nic", 0, u64::from(NICS) - 1, 0)?;
-    let b = guest_at(guests, row, "b")?;
-    let b_nic = row.number_or("b_nic", 0, u64::from(NICS) - 1, 0)?;
-    let bandwidth = row.number("bandwidth", 1, BANDWIDTH)?;
-    let delay = row.number("delay", 1, DELAY)?;
-    let queue = row.number("queue", 1, u64::from(QUEUE))?;
+    element.known()?;
+    let a = guest_at(guests, element, "a")?;
+    let a_nic = element.number_or("a_nic", 0, u64::from(NICS) - 1, 0)?;
+    let b = guest_at(guests, element, "b")?;
+    let b_nic = element.number_or("b_nic", 0, u64::from(NICS) - 1, 0)?;
+    let bandwidth = element.number("bandwidth", 1, BANDWIDTH)?;
+    let delay = element.number("delay", 1, DELAY)?;
+    let queue = element.number("queue", 1, u64::from(QUEUE))?;
     Ok(LinkFields {
         a,
         a_nic: a_nic as u32,
@@ -133,11 +133,11 @@ fn link_fields(guests: &[GuestSpec], row: &Row<'_>) -> Result<LinkFields, ExpErr
 fn link_ends(
     guests: &[GuestSpec],
     done: &[LinkSpec],
-    row: &Row<'_>,
+    element: &FileTable<'_>,
     f: &LinkFields,
 ) -> Result<LinkSpec, ExpErr>
     requires { AreFields (length guests.now) f.now }
-    ensures given { Gives result (link_ends guests.now done.now (table_at row.now.section row.now.index row.now.table.now) f.now) }
+    ensures given { Gives result (link_ends guests.now done.now (table_at element.now.section element.now.index element.now.table.now) f.now) }
     ensures well { IfOk result (IsLink guests.now) }
     ensures free { IfOk result (IsFree done.now) }
 {
@@ -146,13 +146,13 @@ fn link_ends(
         done,
         other: None,
     };
-    let a = end_of(row, &first, "a", "a_nic", f.a, f.a_nic)?;
+    let a = end_of(element, &first, "a", "a_nic", f.a, f.a_nic)?;
     let second = Around {
         guests,
         done,
         other: Some((a, f.a_nic)),
     };
-    let b = end_of(row, &second, "b", "b_nic", f.b, f.b_nic)?;
+    let b = end_of(element, &second, "b", "b_nic", f.b, f.b_nic)?;
     Ok(LinkSpec {
         a,
         a_nic: f.a_nic,
@@ -182,8 +182,8 @@ impl Step for Links<'_> {
 
     #[tactic(auto, unfolding(crate::specs::Links::link_step))]
     fn step(&self, done: &[LinkSpec], value: &Value) -> Result<LinkSpec, ExpErr> {
-        let row = row(Section::Link, done.len() as u32, value)?;
-        let fields = link_fields(self.guests, &row)?;
-        link_ends(self.guests, done, &row, &fields)
+        let element = element(Section::Link, done.len() as u32, value)?;
+        let fields = link_fields(self.guests, &element)?;
+        link_ends(self.guests, done, &element, &fields)
     }
 }

@@ -2,7 +2,7 @@
 ghost use Rattle.std.specs.Prelude.{◌≡◌, ◌≤◌, IfOk, []};
 ghost use Rattle.toml.specs.View.{table_view};
 ghost use Rattle.exp_file.specs.Lists.{Reads};
-ghost use Rattle.exp_file.specs.RowOf.{table_at};
+ghost use Rattle.exp_file.specs.TableOf.{table_at};
 ghost use Rattle.exp_file.specs.Arrays.{arrays_of, items_of, ArraysGive, AreSized};
 ghost use Rattle.exp_file.specs.Reading.{top_of, lists_of, reading};
 ghost use Rattle.exp_file.specs.declared.exp_why.ExpWhy.TheVariants.{NotToml};
@@ -15,9 +15,9 @@ use crate::each::read_each;
 use crate::exp_fault::{ExpErr, ExpFault};
 use crate::exp_why::ExpWhy;
 use crate::experiment::Experiment;
+use crate::file_table::FileTable;
 use crate::guests::Guests;
 use crate::links::Links;
-use crate::rows::Row;
 use crate::section::Section;
 use crate::slots::Slots;
 use std::alloc::Global;
@@ -75,14 +75,14 @@ fn read_lists(
 }
 
 #[tactic(auto, unfolding(crate::specs::Reading::top_of))]
-fn read_top(alloc: Global, row: &Row<'_>) -> Result<Experiment, ExpErr>
-    ensures given { Reads result (top_of (table_at row.now.section row.now.index row.now.table.now)) }
+fn read_top(alloc: Global, element: &FileTable<'_>) -> Result<Experiment, ExpErr>
+    ensures given { Reads result (top_of (table_at element.now.section element.now.index element.now.table.now)) }
     ensures well { IfOk result IsWellFormed }
 {
-    row.known()?;
-    let version = row.number("version", 1, 1)?;
-    let factor = row.number("factor", 1, FACTOR)?;
-    let arrays = read_arrays(row)?;
+    element.known()?;
+    let version = element.number("version", 1, 1)?;
+    let factor = element.number("factor", 1, FACTOR)?;
+    let arrays = read_arrays(element)?;
     read_lists(alloc, version as u32, factor, &arrays)
 }
 
@@ -95,7 +95,7 @@ pub fn read_experiment(alloc: Global, bytes: &[u8]) -> Result<Experiment, ExpErr
     match toml::table_from_slice(alloc, bytes) {
         Ok(table) => read_top(
             alloc,
-            &Row {
+            &FileTable {
                 section: Section::Top,
                 index: 0,
                 table: &table,

@@ -2,14 +2,14 @@
 ghost use Rattle.std.specs.Prelude.{IfOk};
 ghost use Rattle.exp_file.specs.WellFormed.{IsSlot};
 ghost use Rattle.toml.specs.View.{view};
-ghost use Rattle.exp_file.specs.Rows.{Gives};
-ghost use Rattle.exp_file.specs.Tables.{row, slot_of};
-ghost use Rattle.exp_file.specs.RowOf.{RowGives, table_at};
+ghost use Rattle.exp_file.specs.Keys.{Gives};
+ghost use Rattle.exp_file.specs.Tables.{element, slot_of};
+ghost use Rattle.exp_file.specs.TableOf.{TableGives, table_at};
 
 use crate::each::Step;
 use crate::exp_fault::{ExpErr, ExpFault};
 use crate::exp_why::ExpWhy;
-use crate::rows::Row;
+use crate::file_table::FileTable;
 use crate::section::Section;
 use crate::slot_spec::SlotSpec;
 use tb_base::Label;
@@ -17,12 +17,12 @@ use tb_base::limits::CAPACITY;
 use toml::Value;
 
 /// The table that an item of an array is.
-#[tactic(auto, unfolding(crate::specs::Tables::row))]
-pub(crate) fn row(section: Section, index: u32, value: &Value) -> Result<Row<'_>, ExpErr>
-    ensures { RowGives result (row section index (view value.now)) }
+#[tactic(auto, unfolding(crate::specs::Tables::element))]
+pub(crate) fn element(section: Section, index: u32, value: &Value) -> Result<FileTable<'_>, ExpErr>
+    ensures { TableGives result (element section index (view value.now)) }
 {
     match value.as_table() {
-        Some(table) => Ok(Row {
+        Some(table) => Ok(FileTable {
             section,
             index,
             table,
@@ -37,12 +37,12 @@ pub(crate) fn row(section: Section, index: u32, value: &Value) -> Result<Row<'_>
 }
 
 #[tactic(auto, unfolding(crate::specs::Tables::slot_of))]
-fn read_slot(row: &Row<'_>) -> Result<SlotSpec, ExpErr>
-    ensures given { Gives result (slot_of (table_at row.now.section row.now.index row.now.table.now)) }
+fn read_slot(element: &FileTable<'_>) -> Result<SlotSpec, ExpErr>
+    ensures given { Gives result (slot_of (table_at element.now.section element.now.index element.now.table.now)) }
     ensures well { IfOk result IsSlot }
 {
-    row.known()?;
-    let capacity = row.number("capacity", 1, CAPACITY)?;
+    element.known()?;
+    let capacity = element.number("capacity", 1, CAPACITY)?;
     Ok(SlotSpec { capacity })
 }
 
@@ -62,7 +62,7 @@ impl Step for Slots {
 
     #[tactic(auto, unfolding(crate::specs::Tables::slot_step))]
     fn step(&self, done: &[SlotSpec], value: &Value) -> Result<SlotSpec, ExpErr> {
-        let row = row(Section::Slot, done.len() as u32, value)?;
-        read_slot(&row)
+        let element = element(Section::Slot, done.len() as u32, value)?;
+        read_slot(&element)
     }
 }

@@ -5,13 +5,13 @@ ghost use Rattle.std.specs.List.Sorted.{IsStrictlySortedBy};
 ghost use Rattle.std.specs.Str.{bytes_eq};
 ghost use Rattle.std.specs.String.{string_cmp};
 ghost use Rattle.toml.specs.View.{table_view};
-ghost use Rattle.exp_file.specs.Rows.{first_unknown, keys_of};
+ghost use Rattle.exp_file.specs.Keys.{first_unknown, keys_of};
 ghost use Rattle.exp_file.specs.Unknown.{IsLeastUnknown, AreKnown};
 
 use crate::section::Section;
 use toml::Table;
 
-#[tactic(auto, unfolding(crate::specs::Rows::keys_of))]
+#[tactic(auto, unfolding(crate::specs::Keys::keys_of))]
 fn keys_of(section: Section) -> &'static [&'static str]
     ensures { map (λ k. k.now) result.now ≡ keys_of section }
 {

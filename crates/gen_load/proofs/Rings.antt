@@ -12,7 +12,7 @@ use Rattle.exp_file.specs.declared.experiment.Experiment.{Experiment}
 use Rattle.exp_file.specs.Kept.{AreGuests, AreLinks}
 use Rattle.exp_file.specs.Links.{is_used, nics_if, nics_of}
 use Rattle.exp_file.specs.Lists.{without_room}
-use Rattle.exp_file.specs.Rows.{is_name_byte, is_not_zero}
+use Rattle.exp_file.specs.Keys.{is_name_byte, is_not_zero}
 use Rattle.exp_file.specs.Tables.{is_named}
 use Rattle.exp_file.specs.WellFormed.{IsSlot, IsGuest, IsLink, IsFree, IsWellFormed}
 use Rattle.exp_file.proofs.Kept.{kept_slots, no_guests, kept_guests, kept_links}

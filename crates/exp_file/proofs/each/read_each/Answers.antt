@@ -1,6 +1,6 @@
 use Rattle.std.proofs.Common.{arith, sym, ap, ◌∙◌, ◌∷◌, [], ◌++◌, subst}
 use Rattle.toml.specs.View.{view}
-use Rattle.exp_file.specs.Rows.{Fails}
+use Rattle.exp_file.specs.Keys.{Fails}
 use Rattle.exp_file.proofs.Steps.{goes_on, stops}
 use Rattle.exp_file.proofs.each.read_each.Goals as goal
 

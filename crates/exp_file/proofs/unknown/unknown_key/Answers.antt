@@ -1,6 +1,6 @@
 use Rattle.std.proofs.Common.{ap, ◌∙◌}
 use Rattle.toml.specs.View.{table_view}
-use Rattle.exp_file.specs.Rows.{first_unknown, keys_of}
+use Rattle.exp_file.specs.Keys.{first_unknown, keys_of}
 use Rattle.exp_file.proofs.FirstKeys.{told_least, told_none}
 use Rattle.exp_file.proofs.unknown.unknown_key.Goals as goal
 

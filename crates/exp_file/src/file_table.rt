@@ -4,9 +4,9 @@ ghost use Rattle.std.specs.List.{list_any, list_all};
 ghost use Rattle.std.specs.Str.{bytes_eq};
 ghost use Rattle.toml.specs.Data.{get_member, as_str};
 ghost use Rattle.toml.specs.View.{view, table_view, items_view};
-ghost use Rattle.exp_file.specs.Rows.{Gives, at_key, needed, with_default, number_in, number, number_or, maybe_number, text, text_of, maybe_text, text_in, multiple, has_form, is_name_byte, is_not_zero, first_unknown, known, keys_of, fault_at, TextAt, TextGives, IsNameForm, some_array, some_of, format, array_in, array, sized};
+ghost use Rattle.exp_file.specs.Keys.{Gives, at_key, needed, with_default, number_in, number, number_or, maybe_number, text, text_of, maybe_text, text_in, multiple, has_form, is_name_byte, is_not_zero, first_unknown, known, keys_of, fault_at, TextAt, TextGives, IsNameForm, some_array, some_of, format, array_in, array, sized};
 ghost use Rattle.tb_base.specs.Names.{IsNameLength};
-ghost use Rattle.exp_file.specs.RowOf.{ArrayAt, ItemsGive, table_at};
+ghost use Rattle.exp_file.specs.TableOf.{ArrayAt, ItemsGive, table_at};
 
 use crate::exp_fault::{ExpErr, ExpFault};
 use crate::exp_why::ExpWhy;
@@ -20,7 +20,7 @@ use toml::{Table, Value};
 
 /// One table of the file: which it is, and its members.
 #[derive(Clone, Copy)]
-pub(crate) struct Row<'a> {
+pub(crate) struct FileTable<'a> {
     pub(crate) section: Section,
     pub(crate) index: u32,
     pub(crate) table: &'a Table,
@@ -109,7 +109,7 @@ fn copy_of(alloc: Global, t: &str) -> Result<Name, ExpErr>
     }
 }
 
-impl Row<'_> {
+impl FileTable<'_> {
     pub(crate) fn fault(&self, key: &str, why: ExpWhy) -> ExpErr
         ensures { result ≡ ExpErr.Fault (fault_at (table_at self.now.section self.now.index self.now.table.now) key.now why) }
     {
@@ -122,7 +122,7 @@ impl Row<'_> {
     }
 
     /// The number at a key that the table must have.
-    #[tactic(auto, unfolding(crate::specs::Rows::number))]
+    #[tactic(auto, unfolding(crate::specs::Keys::number))]
     pub(crate) fn number(&self, key: &str, low: u64, high: u64) -> Result<u64, ExpErr>
         ensures given { Gives result (number (table_at self.now.section self.now.index self.now.table.now) key.now low high) }
         ensures bound { IfOk result (λ n. (low ≤ n) × (n ≤ high)) }
@@ -135,7 +135,7 @@ impl Row<'_> {
     }
 
     /// The number at a key, or what it is where the table has no such key.
-    #[tactic(auto, unfolding(crate::specs::Rows::number_or))]
+    #[tactic(auto, unfolding(crate::specs::Keys::number_or))]
     pub(crate) fn number_or(
         &self,
         key: &str,
@@ -156,7 +156,7 @@ impl Row<'_> {
     }
 
     /// The number at a key, if the table has it.
-    #[tactic(auto, unfolding(crate::specs::Rows::maybe_number))]
+    #[tactic(auto, unfolding(crate::specs::Keys::maybe_number))]
     pub(crate) fn maybe_number(&self, key: &str, low: u32, high: u32) -> Result<Option<u32>, ExpErr>
         ensures given { Gives result (maybe_number (table_at self.now.section self.now.index self.now.table.now) key.now low high) }
         ensures bound { IfOk result (λ o. IfSome o (λ n. (low ≤ n) × (n ≤ high))) }
@@ -169,7 +169,7 @@ impl Row<'_> {
     }
 
     /// The format of an image.
-    #[tactic(auto, unfolding(crate::specs::Rows::format))]
+    #[tactic(auto, unfolding(crate::specs::Keys::format))]
     pub(crate) fn format(&self) -> Result<Format, ExpErr>
         ensures { Gives result (format (table_at self.now.section self.now.index self.now.table.now)) }
     {
@@ -185,7 +185,7 @@ impl Row<'_> {
     }
 
     /// Refuses a number that is no multiple.
-    #[tactic(auto, unfolding(crate::specs::Rows::multiple))]
+    #[tactic(auto, unfolding(crate::specs::Keys::multiple))]
     pub(crate) fn multiple(&self, key: &str, n: u64, of: u64) -> Result<(), ExpErr>
         requires { 0 < of }
         ensures given { Gives result (multiple (table_at self.now.section self.now.index self.now.table.now) key.now n of) }
@@ -199,7 +199,7 @@ impl Row<'_> {
     }
 
     /// The text at a key that the table must have.
-    #[tactic(auto, unfolding(crate::specs::Rows::text))]
+    #[tactic(auto, unfolding(crate::specs::Keys::text))]
     pub(crate) fn text(&self, key: &str, form: Form) -> Result<&str, ExpErr>
         ensures given { TextGives result (text (table_at self.now.section self.now.index self.now.table.now) key.now form) }
         ensures form { IfOk result (λ t. has_form form t.now ≡ true) }
@@ -224,7 +224,7 @@ impl Row<'_> {
     }
 
     /// The name at a key, if the table has it.
-    #[tactic(auto, unfolding(crate::specs::Rows::maybe_text))]
+    #[tactic(auto, unfolding(crate::specs::Keys::maybe_text))]
     pub(crate) fn maybe_name(
         &self,
         alloc: Global,
@@ -246,7 +246,7 @@ impl Row<'_> {
     }
 
     /// Refuses a key that the table does not have.
-    #[tactic(auto, unfolding(crate::specs::Rows::known))]
+    #[tactic(auto, unfolding(crate::specs::Keys::known))]
     pub(crate) fn known(&self) -> Result<(), ExpErr>
         ensures { Gives result (known (table_at self.now.section self.now.index self.now.table.now)) }
     {
@@ -257,7 +257,7 @@ impl Row<'_> {
     }
 
     /// The items of the array at a key; none where the table has no such key.
-    #[tactic(auto, unfolding(crate::specs::Rows::array))]
+    #[tactic(auto, unfolding(crate::specs::Keys::array))]
     pub(crate) fn array(&self, key: &str, most: usize) -> Result<&[Value], ExpErr>
         ensures given { ItemsGive result (array (table_at self.now.section self.now.index self.now.table.now) key.now most) }
         ensures bound { IfOk result (λ vs. length vs.now ≤ most) }
@@ -269,7 +269,7 @@ impl Row<'_> {
     }
 
     /// The items of an array that the table must have, and that must not be empty.
-    #[tactic(auto, unfolding(crate::specs::Rows::some_array))]
+    #[tactic(auto, unfolding(crate::specs::Keys::some_array))]
     pub(crate) fn some_array(
         &self,
         key: &str,

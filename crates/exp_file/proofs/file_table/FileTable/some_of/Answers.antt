@@ -1,7 +1,7 @@
 use Rattle.std.proofs.Common.{sym}
-use Rattle.exp_file.specs.RowOf.{table_at}
+use Rattle.exp_file.specs.TableOf.{table_at}
 use Rattle.exp_file.proofs.Documents.{some_of-some}
-use Rattle.exp_file.proofs.rows.Row.some_of.Goals as goal
+use Rattle.exp_file.proofs.file_table.FileTable.some_of.Goals as goal
 
 pub returns-else-is_empty-clause-given : goal.returns-else-is_empty-clause-given
 returns-else-is_empty-clause-given c =
