@@ -231,14 +231,12 @@ PROOF
 build_both disk
 ours=$work/crates/bench_disk/out/bench_disk
 
-large() { # NAME PROGRAM WORDS.. makes NAME, which runs the program on a large disk
-    printf '#!/bin/sh\nexec %s 32768 %s\n' "$2" "${3:-}" > "$work/$1"
-    chmod +x "$work/$1"
-}
-large ours_large "$ours"
-large ours_set_up "$ours" none
-large c_large "$work/disk_c"
-compare "blk_dev, 64 sectors" "$ours" "$work/disk_c"
-compare "blk_dev, 32768 sectors" "$work/ours_large" "$work/c_large"
-small=$(least "$ours") all=$(least "$work/ours_large") set_up=$(least "$work/ours_set_up")
-echo "requests alone, 32768 sectors against 64: ratio $(awk "BEGIN { printf \"%.2f\", ($all - $set_up) / $small }")"
+command_of ours_large "$ours" 32768
+command_of ours_set_up "$ours" 32768 none
+command_of c_large "$work/disk_c" 32768
+compare "a request of blk_dev, 64 sectors" "$ours" "$work/disk_c" 4
+small=$one
+compare "a request of blk_dev, 32768 sectors" "$work/ours_large" "$work/c_large" 4
+all=$one
+best "$work/ours_set_up"
+goal "a request on 32768 sectors, by one on 64" "$(awk "BEGIN { printf \"%.2f\", ($all - $least) / $small }")" 1.3

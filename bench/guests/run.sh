@@ -22,22 +22,17 @@ experiment() {
 }
 experiment "$work/one.toml" 1 1
 experiment "$work/many.toml" 32 8
-printf '\x6f\x00\x00\x00' > "$work/jump.bin"
+image jump.bin 0000006f
 
 build_diecast
 
 cd "$work"
-TIMEFORMAT='%3U %3S'
-best() { # the least processor time of five runs, in milliseconds
-    least=
-    for _ in 1 2 3 4 5; do
-        took=$({ time "$diecast" run "$1" --host-ticks "$2" --view journal > journal.txt; } 2>&1 | awk '{ printf "%d", 1000 * ($1 + $2) }')
-        if [ -z "$least" ] || [ "$took" -lt "$least" ]; then least=$took; fi
-    done
-    made=$(grep -c instr journal.txt)
+run() { # an experiment, host ticks
+    best "$diecast" run "$1" --host-ticks "$2" --view journal
+    made=$(grep -c instr said)
     [ "$made" -eq "$steps" ] || { echo "$made steps, and not $steps"; exit 1; }
 }
-best one.toml "$((steps / rate))"; one=$least
-best many.toml "$((steps / rate / 8))"; many=$least
-awk "BEGIN { printf \"steps %d  rate %d  one guest %.1f ns a step  32 guests %.1f ns a step  ratio %.2f\n\",
-    $steps, $rate, 1000000 * $one / $steps, 1000000 * $many / $steps, $many / $one }"
+run one.toml "$((steps / rate))"; one=$least
+run many.toml "$((steps / rate / 8))"; many=$least
+awk "BEGIN { printf \"steps %d  rate %d  one guest %.1f ns a step  32 guests %.1f ns a step\n\", $steps, $rate, 1000 * $one / $steps, 1000 * $many / $steps }"
+goal "a step of 32 guests on 8 slots, by one of one guest" "$(ratio "$many" "$one")" 1.2

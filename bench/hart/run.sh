@@ -108,4 +108,4 @@ PROGRAM
 gcc -O2 "-DPROGRAM=$words" -o "$work/interp" "$here/interp.c"
 (cd "$work/crates/bench_hart" && rt run > "$work/log" 2>&1) || { grep -E 'error|no proof' "$work/log" | head -5; exit 1; }
 
-compare hart "$work/crates/bench_hart/out/bench_hart" "$work/interp"
+compare hart "$work/crates/bench_hart/out/bench_hart" "$work/interp" 1.2

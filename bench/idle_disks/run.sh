@@ -10,7 +10,7 @@ here=$(cd "$(dirname "$0")" && pwd)
 . "$here/../compare.sh"
 
 one_guest 4096 "$rate"
-printf '\x6f\x00\x00\x00' > "$work/a.bin"
+image a.bin 0000006f
 with_disks() { # how many disks the guest of a.toml has, in a file of its own
     cp "$work/a.toml" "$work/disks$1.toml"
     for ((d = 0; d < $1; d++)); do printf '[[disk]]\nguest = "a"\nsectors = 64\nbase = 1\n' >> "$work/disks$1.toml"; done
@@ -21,17 +21,11 @@ with_disks 2
 build_diecast
 
 cd "$work"
-TIMEFORMAT='%3U %3S'
-best() { # the least processor time of five runs, in milliseconds
-    least=
-    for _ in 1 2 3 4 5; do
-        took=$({ time "$diecast" run "$1" --host-ticks "$ticks" --view journal > journal.txt; } 2>&1 | awk '{ printf "%d", 1000 * ($1 + $2) }')
-        if [ -z "$least" ] || [ "$took" -lt "$least" ]; then least=$took; fi
-    done
-    made=$(grep -c instr journal.txt)
+run() {
+    best "$diecast" run "$1" --host-ticks "$ticks" --view journal
+    made=$(grep -c instr said)
     [ "$made" -eq $((ticks * rate)) ] || { echo "$made steps, and not $((ticks * rate))"; exit 1; }
 }
-best disks1.toml; one=$least
-best disks2.toml; two=$least
-awk "BEGIN { printf \"ticks %d  rate %d  one disk %.1f us a tick  two disks %.1f us a tick  ratio %.2f\n\",
-    $ticks, $rate, 1000 * $one / $ticks, 1000 * $two / $ticks, $two / $one }"
+run disks1.toml; one=$least
+run disks2.toml; more=$least
+goal "a tick with two idle disks, by one with one" "$(ratio "$more" "$one")" 1.2

@@ -10,7 +10,7 @@ here=$(cd "$(dirname "$0")" && pwd)
 . "$here/../compare.sh"
 
 one_guest 4096 "$rate"
-printf '\x6f\x00\x00\x00' > "$work/a.bin"
+image a.bin 0000006f
 for nics in 1 4; do # the guest is the last table of a.toml
     { cat "$work/a.toml"; echo "nics = $nics"; } > "$work/nics$nics.toml"
 done
@@ -18,17 +18,11 @@ done
 build_diecast
 
 cd "$work"
-TIMEFORMAT='%3U %3S'
-best() { # the least processor time of five runs, in milliseconds
-    least=
-    for _ in 1 2 3 4 5; do
-        took=$({ time "$diecast" run "$1" --host-ticks "$ticks" --view journal > journal.txt; } 2>&1 | awk '{ printf "%d", 1000 * ($1 + $2) }')
-        if [ -z "$least" ] || [ "$took" -lt "$least" ]; then least=$took; fi
-    done
-    made=$(grep -c instr journal.txt)
+run() {
+    best "$diecast" run "$1" --host-ticks "$ticks" --view journal
+    made=$(grep -c instr said)
     [ "$made" -eq $((ticks * rate)) ] || { echo "$made steps, and not $((ticks * rate))"; exit 1; }
 }
-best nics1.toml; one=$least
-best nics4.toml; four=$least
-awk "BEGIN { printf \"ticks %d  rate %d  one nic %.1f us a tick  four nics %.1f us a tick  ratio %.2f\n\",
-    $ticks, $rate, 1000 * $one / $ticks, 1000 * $four / $ticks, $four / $one }"
+run nics1.toml; one=$least
+run nics4.toml; more=$least
+goal "a tick with four idle nics, by one with one" "$(ratio "$more" "$one")" 1.2

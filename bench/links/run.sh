@@ -7,7 +7,7 @@ here=$(cd "$(dirname "$0")" && pwd)
 . "$here/../compare.sh"
 
 # flat images: one jumps in place, the others send on so many nics
-printf '\x6f\x00\x00\x00' > "$work/silent.bin"
+image silent.bin 0000006f
 for nics in 2 4; do
     riscv64-unknown-elf-gcc -march=rv32im_zicsr -mabi=ilp32 -nostdlib -Wa,--defsym,NICS="$nics" -Wl,-Ttext=0x80000000 -Wl,--build-id=none \
         "$here/sends.S" -o "$work/sends.elf"
@@ -43,31 +43,22 @@ experiment many_ring.toml sends2 32 2 1
 build_diecast
 
 cd "$work"
-TIMEFORMAT='%3U %3S'
-best() { # the least processor time of five runs of an experiment, in milliseconds
-    local took
-    least=
-    for _ in 1 2 3 4 5; do
-        took=$({ time "$diecast" run "$1" --host-ticks "$ticks" --view journal > journal.txt; } 2>&1 | awk '{ printf "%d", 1000 * ($1 + $2) }')
-        if [ -z "$least" ] || [ "$took" -lt "$least" ]; then least=$took; fi
-    done
-}
-ratio() { awk "BEGIN { printf \"%.2f\", $1 / $2 }"; }
-best silent.toml; unlinked=$least
-best ring.toml; echo "silent, 32 links: a step takes $(ratio "$least" "$unlinked") of one without links"
-best graph.toml; echo "silent, 64 links: a step takes $(ratio "$least" "$unlinked") of one without links"
+run() { best "$diecast" run "$1" --host-ticks "$ticks" --view journal; }
+run silent.toml; unlinked=$least
+run ring.toml; goal "a step of 32 silent guests with 32 links, by one without" "$(ratio "$least" "$unlinked")" 1.3
+run graph.toml; goal "a step of 32 silent guests with 64 links, by one without" "$(ratio "$least" "$unlinked")" 1.3
 
 # what a frame costs: the time of a run, and what of it 32 guests take that run as many steps and send nothing, is not told apart; the
 # steps of a frame are the same in both experiments
 frames() { # microseconds a frame that was sent
-    best "$1"
-    sent=$(grep -c '^[0-9]* [0-9]* sent ' journal.txt || true)
-    got=$(grep -c '^[0-9]* [0-9]* recv ' journal.txt || true)
-    [ "$sent" -gt 0 ] && [ "$got" -gt 0 ] || { echo "no frame was sent in $1, or none received"; head -n 5 journal.txt; exit 1; }
-    took=$(awk "BEGIN { printf \"%.2f\", 1000 * $least / $sent }")
+    run "$1"
+    sent=$(grep -c '^[0-9]* [0-9]* sent ' said || true)
+    got=$(grep -c '^[0-9]* [0-9]* recv ' said || true)
+    [ "$sent" -gt 0 ] && [ "$got" -gt 0 ] || { echo "no frame was sent in $1, or none received"; head -n 5 said; exit 1; }
+    took=$(awk "BEGIN { printf \"%.2f\", $least / $sent }")
     echo "$1: $sent frames sent, $got received, $took us a frame"
 }
 frames four.toml; few=$took
-frames many.toml; echo "graph: a frame of 32 guests takes $(ratio "$took" "$few") of one of 4"
+frames many.toml; goal "a frame of 32 guests, by one of 4, each linked to four" "$(ratio "$took" "$few")" 1.3
 frames few_ring.toml; few=$took
-frames many_ring.toml; echo "ring: a frame of 32 guests takes $(ratio "$took" "$few") of one of 4"
+frames many_ring.toml; goal "a frame of 32 guests, by one of 4, in a ring" "$(ratio "$took" "$few")" 1.3

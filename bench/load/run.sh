@@ -10,13 +10,8 @@ here=$(cd "$(dirname "$0")" && pwd)
 build_diecast
 
 cd "$work"
-TIMEFORMAT='%3U %3S'
-least=
-for _ in 1 2 3 4 5; do
-    took=$({ time "$diecast" gen "$guests" --host-ticks "$host_ticks" > said.txt; } 2>&1 | awk '{ printf "%d", 1000 * ($1 + $2) }')
-    [ -f first.txt ] || cp said.txt first.txt
-    cmp said.txt first.txt
-    if [ -z "$least" ] || [ "$took" -lt "$least" ]; then least=$took; fi
-done
-awk -v ms="$least" '/ instr / { for (i = 1; i < NF; i++) { if ($i == "instr") steps += $(i + 1); if ($i == "sent" || $i == "recv") frames += $(i + 1) } }
-    END { printf "%d ms: %d instructions, %.1f ns each; %d frames sent or received, %.2f us each, with all else in it\n", ms, steps, 1e6 * ms / steps, frames, 1e3 * ms / frames }' said.txt
+run() { best "$diecast" gen "$guests" --host-ticks "$host_ticks"; }
+run; cp said first
+run; cmp said first
+awk -v us="$least" '/ instr / { for (i = 1; i < NF; i++) { if ($i == "instr") steps += $(i + 1); if ($i == "sent" || $i == "recv") frames += $(i + 1) } }
+    END { printf "%d us: %d instructions, %.1f ns each; %d frames sent or received, %.2f us each, with all else in it\n", us, steps, 1e3 * us / steps, frames, us / frames }' said

@@ -46,4 +46,4 @@ PROGRAM
 
 build_both ram
 
-compare guest_ram "$work/crates/bench_ram/out/bench_ram" "$work/ram_c"
+compare guest_ram "$work/crates/bench_ram/out/bench_ram" "$work/ram_c" 2
