@@ -13,7 +13,7 @@ use Rattle.dev_face.proofs.Skipping.{at_again, at_kind, at_own, skipped_set_up, 
 use Rattle.lookahead_core.specs.Lists.{list_at}
 use Rattle.link_pipe.specs.PipeStates.{PipeState}
 use Rattle.dev_list.specs.Sending.{sending}
-use Rattle.dev_list.specs.Walks.{walk, put_first, begin_one, arriving, frames_of, nic_of, end_one, join_lines, all_lines, least_of, least_due}
+use Rattle.dev_list.specs.Walks.{Walked, walk, put_first, begin_one, arriving, frames_of, nic_of, end_one, end_all, join_lines, all_lines, least_of, least_due}
 use Rattle.dev_list.proofs.Listed.{state_there}
 
 -- the least due tick of one device more
@@ -143,6 +143,14 @@ ended_all t u first pipes ram i (s ∷ ss) idle =
     let e : (dev_end_idle s ≡ true) × (list_all dev_end_idle ss ≡ true) = and_parts (dev_end_idle s) (list_all dev_end_idle ss) idle in
     ap (λ (x : Ended). put_first x (walk (end_one t first pipes) (i + 1) (map (at_coming u) ss) x.ram)) (ended_one t u first i pipes ram s e.0)
     ∙ ap (put_first (record { device = at_coming u s; ram = ram; frames = []; recs = [] })) (ended_all t u first pipes ram (i + 1) ss e.1)
+
+-- and so does one of devices that have begun it
+pub ended_idle : (now n first : ℕ) (pipes : List (Option PipeState)) (ram : List ℕ) (ss : List DevState) → All (IsComing (now + 1) n) ss → list_all dev_end_idle ss ≡ true →
+    end_all ss now ram first pipes ≡ record { devices = ss; ram = ram; frames = silent ss; recs = [] }
+ended_idle now n first pipes ram ss all idle =
+    ap (λ (ds : List DevState). walk (end_one now first pipes) 0 ds ram) (sym (own_all (now + 1) n ss all))
+    ∙ ended_all now (now + 1) first pipes ram 0 ss idle
+    ∙ ap (λ (ds : List DevState). let x : Walked = record { devices = ds; ram = ram; frames = silent ss; recs = [] } in x) (own_all (now + 1) n ss all)
 
 -- nothing arrives at any device where nothing arrives at the nics
 none_listed : (n nic : ℕ) → list_at {A = List ℕ} (replicate n []) nic ≡ []
