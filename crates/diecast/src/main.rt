@@ -14,6 +14,9 @@ mod tests;
 
 use program::{out_of_memory, program};
 
+/// How many bytes of the output are handed to the host at once.
+const OUT_BUFFER: usize = 65_536;
+
 /// The words after the program's own name.
 fn words_of(rt: &HostRuntime) -> io::Result<Vec<String>> {
     let mut words = Vec::new(rt.alloc());
@@ -38,7 +41,7 @@ fn main(rt: HostRuntime) -> ExitCode {
     let Ok(own) = rt.clone() else {
         return ExitCode::from(out_of_memory(&mut msg));
     };
-    let Ok(buffer) = BufWriter::new(alloc, rt.stdout()) else {
+    let Ok(buffer) = BufWriter::with_capacity(alloc, OUT_BUFFER, rt.stdout()) else {
         return ExitCode::from(out_of_memory(&mut msg));
     };
     let mut files = HostFiles::new(alloc, own);

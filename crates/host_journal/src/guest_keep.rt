@@ -7,10 +7,11 @@ use crate::guest_texts::put_guests_text;
 use crate::head::Head;
 use crate::held::Held;
 use crate::keep::{Keep, KeepErr};
+use crate::line_maker::LineMaker;
 use crate::quantum::Quantum;
 use crate::show::Show;
 use std::alloc::Global;
-use tb_base::{Bytes, NoMemory};
+use tb_base::NoMemory;
 use tb_io::Sink;
 use trace_rec::Log;
 
@@ -23,7 +24,7 @@ pub struct GuestKeep<H: Held> {
     alloc: Global,
     head: Head,
     held: Vec<H>,
-    line: Bytes,
+    maker: LineMaker,
     failed: bool,
     ghost one_each: { length held.items ≡ length head.names.items },
     ghost factor_some: { 1 ≤ head.factor },
@@ -60,7 +61,7 @@ impl<H: Held> GuestKeep<H> {
             alloc,
             head,
             held,
-            line: Bytes::new(alloc),
+            maker: LineMaker::new(alloc),
             failed: false,
         })
     }
@@ -128,7 +129,7 @@ impl<O: Sink, H: Held> Show<O> for GuestKeep<H> {
     fn finish(&mut self, out: &mut O) -> Result<(), KeepErr> {
         put_guests_text(
             &mut self.failed,
-            &mut self.line,
+            &mut self.maker,
             out,
             &self.head,
             &self.held,

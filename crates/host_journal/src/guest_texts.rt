@@ -10,14 +10,15 @@ use crate::guest_lines::put_last;
 use crate::head::Head;
 use crate::held::Held;
 use crate::keep::KeepErr;
+use crate::line_maker::LineMaker;
 use crate::put::put_line;
-use tb_base::{Bytes, Name};
+use tb_base::Name;
 use tb_io::Sink;
 
 /// Puts what stands of each guest.
 fn put_guests<O: Sink, H: Held>(
     failed: &mut bool,
-    line: &mut Bytes,
+    maker: &mut LineMaker,
     out: &mut O,
     names: &[Name],
     held: &[H],
@@ -31,7 +32,7 @@ fn put_guests<O: Sink, H: Held>(
     ensures cause { KeepCause (O.faults out.old) (O.faults out.new) result }
 {
     for i in 0..names.len() {
-        held[i].put(failed, line, out, i as u32, names[i].as_slice())?;
+        held[i].put(failed, maker, out, i as u32, names[i].as_slice())?;
     }
     Ok(())
 }
@@ -39,7 +40,7 @@ fn put_guests<O: Sink, H: Held>(
 /// Puts the text of all guests, if nothing failed before.
 pub(crate) fn put_guests_text<O: Sink, H: Held>(
     failed: &mut bool,
-    line: &mut Bytes,
+    maker: &mut LineMaker,
     out: &mut O,
     head: &Head,
     held: &[H],
@@ -54,11 +55,11 @@ pub(crate) fn put_guests_text<O: Sink, H: Held>(
     ensures err { OnErr result (failed.new ≡ true) }
     ensures cause { KeepCause (O.faults out.old) (O.faults out.new) result }
 {
-    line.clear();
-    let made = H::put_head(line, head);
-    put_line(failed, out, made, line)?;
-    put_guests(failed, line, out, head.names.as_slice(), held)?;
-    line.clear();
-    let made = put_last(line);
-    put_line(failed, out, made, line)
+    maker.line.clear();
+    let made = H::put_head(&mut maker.line, head);
+    put_line(failed, out, made, &maker.line)?;
+    put_guests(failed, maker, out, head.names.as_slice(), held)?;
+    maker.line.clear();
+    let made = put_last(&mut maker.line);
+    put_line(failed, out, made, &maker.line)
 }

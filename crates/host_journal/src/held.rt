@@ -8,6 +8,7 @@ ghost use Rattle.host_journal.specs.Standing.{Adds};
 
 use crate::head::Head;
 use crate::keep::KeepErr;
+use crate::line_maker::LineMaker;
 use std::alloc::Global;
 use tb_base::{Bytes, NoMemory};
 use tb_io::Sink;
@@ -41,7 +42,7 @@ pub trait Held: Drop {
     fn put<O: Sink>(
         &self,
         failed: &mut bool,
-        line: &mut Bytes,
+        maker: &mut LineMaker,
         out: &mut O,
         guest: u32,
         name: &[u8],

@@ -7,12 +7,13 @@ ghost use Rattle.host_journal.specs.Keepers.{head_of, view_of, heading_of, has_f
 
 use crate::head::Head;
 use crate::keep::{Keep, KeepErr};
+use crate::line_maker::LineMaker;
 use crate::lines::{put_end, put_head, put_host_tick, put_quantum, put_slot};
 use crate::put::{put_line, put_shown};
 use crate::quantum::Quantum;
 use crate::show::Show;
 use std::alloc::Global;
-use tb_base::{Bytes, NoMemory};
+use tb_base::NoMemory;
 use tb_io::Sink;
 use trace_rec::{Log, View};
 
@@ -23,8 +24,7 @@ use trace_rec::{Log, View};
 pub struct JournalKeep {
     head: Head,
     view: View,
-    // the line that is made, which keeps its room from one line to the next
-    line: Bytes,
+    maker: LineMaker,
     failed: bool,
 }
 
@@ -39,7 +39,7 @@ impl JournalKeep {
         Ok(JournalKeep {
             head,
             view,
-            line: Bytes::new(alloc),
+            maker: LineMaker::new(alloc),
             failed: false,
         })
     }
@@ -67,9 +67,9 @@ impl<O: Sink> Keep<O> for JournalKeep {
         ensures cause { KeepCause (O.faults out.old) (O.faults out.new) result }
         ensures failing { StaysFailed self.old self.new (O.taken out.old) (O.taken out.new) result }
     {
-        self.line.clear();
-        let made = put_host_tick(&mut self.line, t);
-        put_line(&mut self.failed, out, made, &self.line)
+        self.maker.line.clear();
+        let made = put_host_tick(&mut self.maker.line, t);
+        put_line(&mut self.failed, out, made, &self.maker.line)
     }
 
     fn slot(&mut self, out: &mut O, s: u32) -> Result<(), KeepErr>
@@ -80,9 +80,9 @@ impl<O: Sink> Keep<O> for JournalKeep {
         ensures cause { KeepCause (O.faults out.old) (O.faults out.new) result }
         ensures failing { StaysFailed self.old self.new (O.taken out.old) (O.taken out.new) result }
     {
-        self.line.clear();
-        let made = put_slot(&mut self.line, s);
-        put_line(&mut self.failed, out, made, &self.line)
+        self.maker.line.clear();
+        let made = put_slot(&mut self.maker.line, s);
+        put_line(&mut self.failed, out, made, &self.maker.line)
     }
 
     fn quantum(&mut self, out: &mut O, q: &Quantum, recs: &Log) -> Result<(), KeepErr>
@@ -94,12 +94,12 @@ impl<O: Sink> Keep<O> for JournalKeep {
         ensures cause { KeepCause (O.faults out.old) (O.faults out.new) result }
         ensures failing { StaysFailed self.old self.new (O.taken out.old) (O.taken out.new) result }
     {
-        self.line.clear();
-        let made = put_quantum(&mut self.line, q);
-        put_line(&mut self.failed, out, made, &self.line)?;
+        self.maker.line.clear();
+        let made = put_quantum(&mut self.maker.line, q);
+        put_line(&mut self.failed, out, made, &self.maker.line)?;
         put_shown(
             &mut self.failed,
-            &mut self.line,
+            &mut self.maker,
             out,
             self.view,
             q.guest,
@@ -137,9 +137,9 @@ impl<O: Sink> Show<O> for JournalKeep {
         ensures failing { StaysFailed self.old self.new (O.taken out.old) (O.taken out.new) result }
         ensures cause { KeepCause (O.faults out.old) (O.faults out.new) result }
     {
-        self.line.clear();
-        let made = put_head(&mut self.line, &self.head);
-        put_line(&mut self.failed, out, made, &self.line)
+        self.maker.line.clear();
+        let made = put_head(&mut self.maker.line, &self.head);
+        put_line(&mut self.failed, out, made, &self.maker.line)
     }
 
     fn finish(&mut self, out: &mut O) -> Result<(), KeepErr>
@@ -151,8 +151,8 @@ impl<O: Sink> Show<O> for JournalKeep {
         ensures failing { StaysFailed self.old self.new (O.taken out.old) (O.taken out.new) result }
         ensures cause { KeepCause (O.faults out.old) (O.faults out.new) result }
     {
-        self.line.clear();
-        let made = put_end(&mut self.line, self.head.host_ticks);
-        put_line(&mut self.failed, out, made, &self.line)
+        self.maker.line.clear();
+        let made = put_end(&mut self.maker.line, self.head.host_ticks);
+        put_line(&mut self.failed, out, made, &self.maker.line)
     }
 }

@@ -10,6 +10,7 @@ mod held;
 mod journal_keep;
 mod keep;
 mod law;
+mod line_maker;
 mod lines;
 mod put;
 mod quantum;

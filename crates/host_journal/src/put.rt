@@ -7,9 +7,10 @@ ghost use Rattle.host_journal.specs.Standing.{Adds};
 ghost use Rattle.host_journal.specs.Texts.{rec_lines};
 
 use crate::keep::KeepErr;
+use crate::line_maker::LineMaker;
 use tb_base::{Bytes, NoMemory};
 use tb_io::Sink;
-use trace_rec::{Rec, View, put_rec, shown};
+use trace_rec::{Rec, View, shown};
 
 /// Puts a line, if it was made and nothing failed before.
 pub(crate) fn put_line<O: Sink>(
@@ -43,7 +44,7 @@ pub(crate) fn put_line<O: Sink>(
 /// Puts the line of a record of a guest, if the view shows it.
 fn put_if_shown<O: Sink>(
     failed: &mut bool,
-    line: &mut Bytes,
+    maker: &mut LineMaker,
     out: &mut O,
     view: View,
     guest: u32,
@@ -59,15 +60,14 @@ fn put_if_shown<O: Sink>(
     if !shown(view, rec) {
         return Ok(());
     }
-    line.clear();
-    let made = put_rec(line, guest, rec);
-    put_line(failed, out, made, line)
+    let made = maker.make(guest, rec);
+    put_line(failed, out, made, &maker.line)
 }
 
 /// Puts the lines of the records of a guest that the view shows.
 pub(crate) fn put_shown<O: Sink>(
     failed: &mut bool,
-    line: &mut Bytes,
+    maker: &mut LineMaker,
     out: &mut O,
     view: View,
     guest: u32,
@@ -80,7 +80,7 @@ pub(crate) fn put_shown<O: Sink>(
     ensures cause { KeepCause (O.faults out.old) (O.faults out.new) result }
 {
     for rec in recs {
-        put_if_shown(failed, line, out, view, guest, rec)?;
+        put_if_shown(failed, maker, out, view, guest, rec)?;
     }
     Ok(())
 }

@@ -6,6 +6,7 @@ use crate::guest_lines::{put_guests_head, put_summary_line};
 use crate::head::Head;
 use crate::held::Held;
 use crate::keep::KeepErr;
+use crate::line_maker::LineMaker;
 use crate::put::put_line;
 use std::alloc::Global;
 use tb_base::{Bytes, NoMemory};
@@ -43,13 +44,13 @@ impl Held for Counts {
     fn put<O: Sink>(
         &self,
         failed: &mut bool,
-        line: &mut Bytes,
+        maker: &mut LineMaker,
         out: &mut O,
         guest: u32,
         name: &[u8],
     ) -> Result<(), KeepErr> {
-        line.clear();
-        let made = put_summary_line(line, guest, name, self);
-        put_line(failed, out, made, line)
+        maker.line.clear();
+        let made = put_summary_line(&mut maker.line, guest, name, self);
+        put_line(failed, out, made, &maker.line)
     }
 }

@@ -8,6 +8,7 @@ use crate::guest_lines::{put_guest, put_guests_head};
 use crate::head::Head;
 use crate::held::Held;
 use crate::keep::KeepErr;
+use crate::line_maker::LineMaker;
 use crate::put::{put_line, put_shown};
 use std::alloc::Global;
 use tb_base::{Bytes, NoMemory};
@@ -62,14 +63,14 @@ impl Held for Log {
     fn put<O: Sink>(
         &self,
         failed: &mut bool,
-        line: &mut Bytes,
+        maker: &mut LineMaker,
         out: &mut O,
         guest: u32,
         name: &[u8],
     ) -> Result<(), KeepErr> {
-        line.clear();
-        let made = put_guest(line, guest, name);
-        put_line(failed, out, made, line)?;
-        put_shown(failed, line, out, View::Traces, guest, self.as_slice())
+        maker.line.clear();
+        let made = put_guest(&mut maker.line, guest, name);
+        put_line(failed, out, made, &maker.line)?;
+        put_shown(failed, maker, out, View::Traces, guest, self.as_slice())
     }
 }

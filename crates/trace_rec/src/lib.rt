@@ -9,7 +9,7 @@ mod view;
 mod what;
 
 pub use law::lines_are_told_apart;
-pub use line::put_rec;
+pub use line::{put_rec, put_rec_head, put_rec_rest};
 pub use log::Log;
 pub use rec::Rec;
 pub use view::{View, shown};
