@@ -19,6 +19,7 @@ module _ {N : Type 0} {G : Ghosts N} {old mid new : Scheduler N G} where
     members_same = b.members_same ∙ a.members_same;
     head_same = b.head_same ∙ a.head_same;
     ready = b.ready;
+    queued = b.queued;
     cause = subst (λ n. TickCause n f2 result) a.cause.ok b.cause;
   }
 
@@ -30,6 +31,7 @@ module _ {N : Type 0} {G : Ghosts N} {old mid new : Scheduler N G} where
     members_same = b.members_same;
     head_same = b.head_same;
     ready = b.ready;
+    queued = b.queued;
     cause = record { later = b.cause.later; ok = b.cause.ok; no_memory = λ q. cc; failed = λ q. cc };
   }
 
@@ -41,6 +43,7 @@ module _ {N : Type 0} {G : Ghosts N} {old mid new : Scheduler N G} where
     members_same = b.members_same;
     head_same = b.head_same;
     ready = tt;
+    queued = tt;
     cause = record { later = b.cause.later; ok = tt; no_memory = λ q. b.cause.no_memory (cc); failed = λ q. b.cause.failed (cc) };
   }
 

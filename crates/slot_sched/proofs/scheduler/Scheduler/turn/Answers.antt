@@ -37,6 +37,7 @@ loop-spent-init g c = record {
     members_same = c.slot.ensures.members;
     head_same = c.slot.ensures.head;
     ready = c.requires.ready;
+    queued = c.requires.queued;
     cause = record { later = omega (arith, c.in-Ok.ensures.cause.later); ok = c.in-Ok.ensures.cause.ok; no_memory = λ e. cc; failed = λ e. cc };
   };
   within = omega arith;
