@@ -22,6 +22,7 @@ use tb_base::limits::{DISKS, GUESTS};
 use tb_io::{Files, Sink};
 use tb_top::{Status, Stock, diecast};
 use uart_dev::Uart;
+use words_line::commands_are_in_range;
 
 /// Most nics of an experiment: four of each guest.
 const NICS: usize = 128;
@@ -100,5 +101,6 @@ pub(crate) fn run_with<F: Files, O: Sink, M: Sink>(
     disks_are_few();
     nics_are_few();
     loads_are_right();
+    commands_are_in_range();
     Ok(diecast(alloc, words, files, out, msg, stock))
 }

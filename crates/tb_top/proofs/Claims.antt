@@ -1,17 +1,47 @@
 -- What follows from how a command ends.
-use Rattle.tb_top.proofs.Common.{◌≡◌, ◌≢◌, ℕ, ◌<◌, ◌≤◌, ◌⊎◌, true, List, length, Option, Some, None, IfSome, Ok, Err, inl, inr, refl, sym, ap, ◌∙◌, subst, arith, Rose, part_whole, DiskSpec, Experiment, Fits, IsFirstOverload, placed, Overload, View, Entry, start, IsComplete, Kind, IsTaken, Fills, Inputs, Suffices, IsShort, ImageFault, DiskSize, NoDevice, command, Missed, Ends, no_memory, no_experiment, ended, Refuses, IsAsked, TaskEnds, Asks, IsRight, MayRun, IsTold, IsToldOf, IsPartPut, FilesServed, OutServed, Completes, IsPlanned, Origin, File, Load, ring, origin_of, task_of, AreFor, IsFrom, Plans, IsRead, IsTooLong, IsContent, Says, experiment_limit, image_limit, disk_limit, World, Quiet, TheExperiment, ImageOf, DiskOf, Status, Done, Over, Usage, Refused, Build, TooLong, ReadFault, WriteFault, Memory, Task, Run, Plan}
-use Rattle.exp_file.specs.Reading.{reading}
-use Rattle.gen_load.proofs.Fitting.{fits}
-use Rattle.host_journal.specs.Printed.{count_of, up_to_tick}
-use Rattle.plan_text.specs.Texts.{plan_text}
-use Rattle.slot_sched.proofs.Telling.{tells, kept_up, legal_up_to, past_complete}
-use Rattle.bench_build.specs.Setups.{run_rules}
+use Rattle.tb_top.proofs.Common.{◌≡◌, ◌≢◌, ◌∙◌, ℕ, ◌<◌, ◌≤◌, ◌/◌, ◌⊎◌, true, List, [], length, Option, Some, None, IfSome, Ok, Err, inl, inr, refl, sym, ap, subst, arith, Rose, View, Experiment, MachineState, machine_motion, Fits, IsFirstOverload, placed, Overload, count_of, up_to_tick, IsComplete, Schedule, rules, Inputs, plan, run_rules, setup, Suffices, IsShort, Loaded, IsRead, IsTooLong, IsContent, image_limit, disk_limit, OpenFault, IsUnopened, Ends, no_memory, no_experiment, ended, Refuses, IsAsked, TaskEnds, Asks, IsRight, MayRun, IsTold, IsToldOf, IsPartPut, FilesServed, OutServed, Completes, IsPlanned, is_made, Origin, File, Load, Task, Run, Plan, origin_of, task_of, AreFor, IsFrom, Says, experiment_limit, Plans, open_status, World, Quiet, Status, Done, Usage, Refused, Build, TooLong, ReadFault, WriteFault, Memory}
+use Rattle.tb_io.proofs.Parts.{part_whole}
+use Rattle.lookahead_core.specs.Synchronous.{Setup}
+use Rattle.exp_file.specs.declared.disk_spec.DiskSpec.{DiskSpec}
+use Rattle.dev_face.specs.declared.kind.Kind.{Kind}
+use Rattle.host_journal.specs.Entries.{Entry}
+use Rattle.slot_sched.specs.Told.{Tells}
+use Rattle.bench_build.specs.Answers.{Fills}
+use Rattle.bench_build.specs.declared.build_fault.BuildFault.TheVariants.{Image as ImageFault, DiskSize, NoDevice}
+use Rattle.gen_load.specs.Loads.{ring}
+use Rattle.words_line.specs.Ranges.{IsInRange}
+use Rattle.words_line.specs.Words.{command}
+use Rattle.words_line.specs.declared.command.Command.{Command}
+use Rattle.words_line.specs.declared.command.Command.TheVariants as given
+use Rattle.open_images.specs.declared.file_id.FileId.TheVariants.{Experiment as TheExperiment, Image as ImageOf, Disk as DiskOf}
+use Rattle.open_images.specs.declared.open_fault.OpenFault.TheVariants as open_is
 use Rattle.tb_top.specs.Headline.{IsUndisturbed, IsJudged, IsTraced, IsPrinted, Headline}
-use Rattle.tb_top.specs.Lines.{is_made}
-use Rattle.tb_top.proofs.Ranges.{few_guests}
-use Rattle.words_line.specs.declared.word_fault.WordFault.{WordFault}
+use Rattle.tb_top.specs.declared.status.Status.TheVariants.{Overload as Over}
 
--- The words give one task with one origin, and no fault then.
+-- What the laws of the crates below say.
+abbrev pub AreInRange : Type 0
+AreInRange = (words : List (List ℕ)) (c : Command) → command words ≡ Ok c → IsInRange c
+
+pub record Laws : Type 0 where
+  pub ranges : AreInRange
+  pub fits : (n : ℕ) → n ≤ 32 → Fits (ring n) (placed (ring n))
+  pub told : (x : Setup MachineState) (p : Schedule) (es : List Entry) (t g : ℕ) → IsComplete (rules machine_motion x p) es → Tells (rules machine_motion x p) (up_to_tick t es) g
+  pub kept_up : (x : Setup MachineState) (p : Schedule) (es : List Entry) (t g : ℕ) → IsComplete (rules machine_motion x p) es → t ≤ p.host_ticks → g < x.count
+      → t / p.factor ≤ count_of g (up_to_tick t es)
+
+-- a load has 2 to 32 guests
+few : (c : Command) (n : ℕ) → IsInRange c → origin_of c ≡ Load n → (2 ≤ n) × (n ≤ 32)
+few (given.Gen m t) n h same =
+    let load : Load m ≡ Load n = same in
+    let e : m ≡ n = cc load in
+    subst (λ k. (2 ≤ k) × (k ≤ 32)) e (h.0, h.1)
+few (given.Run file t view) n h same = let no : File file ≡ Load n = same in absurd (cc no)
+few (given.Plan file) n h same = let no : File file ≡ Load n = same in absurd (cc no)
+
+few_guests : AreInRange → (words : List (List ℕ)) (n : ℕ) (t : Task) → AreFor words (Load n) t → (2 ≤ n) × (n ≤ 32)
+few_guests ranges words n t c = few c.given n (ranges words c.given c.read) c.origin
+
+-- The words give one task with one origin.
 one_command : (words : List (List ℕ)) (o q : Origin) (t u : Task) → AreFor words o t → AreFor words q u → (o ≡ q) × (t ≡ u)
 one_command words o q t u c d =
     let read = c.read in
@@ -19,28 +49,21 @@ one_command words o q t u c d =
     let same : c.given ≡ d.given = cc (read, also) in
     (sym c.origin ∙ ap origin_of same ∙ d.origin, sym c.task_is ∙ ap task_of same ∙ d.task_is)
 
-no_fault : (words : List (List ℕ)) (o : Origin) (t : Task) (x : WordFault) → AreFor words o t → command words ≡ Err x → ⊥
-no_fault words o t x c bad = let read = c.read in cc (read, bad)
-
--- what holds of what is told
-of_told : (P : List ℕ → Type 0) (o : Option (List ℕ)) (t : List ℕ) → o ≡ Some t → IfSome o P → P t
-of_told P o t e h = subst (λ z. IfSome z P) e h
-
 -- the experiment that was read is the one that is told
 told_same : (held : List ℕ → Option (List ℕ)) (o : Origin) (e f : Experiment) → IsToldOf held o e → IsFrom held o f → f ≡ e
 told_same held (File name) e f told from =
-    let bytes : from.bytes ≡ told.bytes = of_told (λ z. from.bytes ≡ z) (held name) told.bytes told.told_is from.read.held in
-    let read : reading told.bytes ≡ Ok f = subst (λ (b : List ℕ). Says b f) bytes from.holds in
+    let bytes : from.bytes ≡ told.bytes = subst (λ z. IfSome z (λ t. from.bytes ≡ t)) told.told_is from.read.held in
+    let read = subst (λ (b : List ℕ). Says b f) bytes from.holds in
     let said = told.holds in
     cc (read, said)
 told_same held (Load n) e f told from = from ∙ sym told
 
 not_too_long : (o : Option (List ℕ)) (limit : ℕ) (P : List ℕ → Type 0) → IsTold o limit P → IsTooLong o limit → ⊥
-not_too_long o limit P told long = omega (arith, told.short, of_told (λ b. limit < length b) o told.bytes told.told_is long)
+not_too_long o limit P told long = let over : limit < length told.bytes = subst (λ z. IfSome z (λ t. limit < length t)) told.told_is long in omega (arith, told.short, over)
 
 -- what was read of a file that is told has what holds of the told bytes
 read_told : (o : Option (List ℕ)) (limit : ℕ) (P : List ℕ → Type 0) (b : List ℕ) → IsTold o limit P → IsRead o limit b → P b
-read_told o limit P b told read = subst P (sym (of_told (λ t. b ≡ t) o told.bytes told.told_is read.held)) told.holds
+read_told o limit P b told read = subst P (sym (subst (λ z. IfSome z (λ t. b ≡ t)) told.told_is read.held)) told.holds
 
 -- Of a task with an experiment that is told.
 module _ (w : World) (o : Origin) (t : Task) (e : Experiment) (asks : Asks w.words w.files.held o t e) where
@@ -57,7 +80,7 @@ module _ (w : World) (o : Origin) (t : Task) (e : Experiment) (asks : Asks w.wor
   -- so there is one, but where the read of its file failed
   module _ (P : Status → Type 0) (lost : Rose w.files.faults w.files_after.faults → P (ReadFault TheExperiment)) where
     refused : (s : Status) → Refuses w.words w.files w.files_after s → P s
-    refused (Usage f) gives = absurd (no_fault w.words o t f asks.command gives)
+    refused (Usage f) gives = let read = asks.command.read in absurd (cc (read, gives))
     refused (TooLong TheExperiment) h = absurd (not_too_long (w.files.held h.name) experiment_limit (λ b. Says b e) (told_of h.name h.task h.command) h.holds)
     refused (ReadFault TheExperiment) h = lost h.holds.rose
     refused (Refused f) h =
@@ -85,43 +108,53 @@ content_fills : (held : List ℕ → Option (List ℕ)) (d : DiskSpec) (o : Opti
 content_fills held d None b told read = omega (arith, ap length read)
 content_fills held d (Some name) b told read = read_told (held name) disk_limit (Fills d) b (told name refl) read
 
+-- what its bench is opened with is right, but where a file failed
+module _ (w : World) (e : Experiment) (enough : Suffices e w.stock) where
+  not_short : {Like : Inputs → Type 0} (k : Kind) (wanted had : ℕ) → Loaded Like (λ i. IsShort e w.stock (NoDevice k wanted had)) → ⊥
+  not_short k wanted had l = omega (arith, enough.of k, l.holds.wanted, l.holds.had_is, l.holds.short)
+
+  unopened : (o : Origin) → IsRight w.files.held o e → (f : OpenFault) → IsUnopened w o e f → IsHurt w (open_status f)
+  unopened o right open_is.Memory h = (λ calm. calm, λ files out. refl)
+  unopened (Load n) right (open_is.Build (NoDevice k wanted had)) l = absurd (not_short k wanted had l)
+  unopened (Load n) right f h = absurd h
+  unopened (File name) right (open_is.Build (NoDevice k wanted had)) l = absurd (not_short k wanted had l)
+  unopened (File name) right (open_is.Build (ImageFault i fault)) k =
+      let taken = read_told (w.files.held k.thing.image) _ _ k.why.bytes (right.images i k.thing k.at) k.why.read in
+      let taken_is = taken.is in
+      let bad = k.why.holds in
+      absurd (cc (taken_is, bad))
+  unopened (File name) right (open_is.Build (DiskSize j len room)) k =
+      let fills = content_fills w.files.held k.thing k.thing.image k.why.bytes (λ name. right.disks j k.thing name k.at) k.why.read in
+      absurd (omega (arith, fills, k.why.len_is, k.why.room_is, k.why.over))
+  unopened (File name) right (open_is.TooLong (ImageOf i)) k = absurd (not_too_long (w.files.held k.thing.image) _ _ (right.images i k.thing k.at) k.why)
+  unopened (File name) right (open_is.TooLong (DiskOf j)) k = absurd (not_too_long (w.files.held k.why.0) _ _ (right.disks j k.thing k.why.0 k.at k.why.1) k.why.2)
+  unopened (File name) right (open_is.ReadFault (ImageOf i)) k = (λ calm. calm, λ files out. absurd (files k.why.rose))
+  unopened (File name) right (open_is.ReadFault (DiskOf j)) k = (λ calm. calm, λ files out. absurd (files k.why.2.rose))
+  unopened (File name) right _ h = absurd h
+
 -- a run of an experiment that is right fits
-it_fits : (words : List (List ℕ)) (held : List ℕ → Option (List ℕ)) (o : Origin) (t : Task) (e : Experiment) → AreFor words o t → IsToldOf held o e → IsRight held o e → Fits e (placed e)
-it_fits words held (File name) t e c told right = right.fits
-it_fits words held (Load n) t e c told right = subst (λ (x : Experiment). Fits x (placed x)) (sym told) (fits n (few_guests words n t c).1)
+it_fits : Laws → (words : List (List ℕ)) (held : List ℕ → Option (List ℕ)) (o : Origin) (t : Task) (e : Experiment) → AreFor words o t → IsToldOf held o e → IsRight held o e → Fits e (placed e)
+it_fits laws words held (File name) t e c told right = right.fits
+it_fits laws words held (Load n) t e c told right = subst (λ (x : Experiment). Fits x (placed x)) (sym told) (laws.fits n (few_guests laws.ranges words n t c).1)
 
--- what a run reads is taken, but where a file failed
-unmissed : (w : World) (o : Origin) (e : Experiment) → IsRight w.files.held o e → (s : Status) → Missed w.files w.files_after o e s → IsHurt w s
-unmissed w (Load n) e right s h = absurd h
-unmissed w (File name) e right (Build (ImageFault i fault)) k =
-    let taken = read_told (w.files.held k.thing.image) image_limit (IsTaken k.thing) k.why.bytes (right.images i k.thing k.at) k.why.read in
-    let taken_is = taken.is in
-    let bad = k.why.holds in
-    absurd (cc (taken_is, bad))
-unmissed w (File name) e right (Build (DiskSize j len room)) k =
-    let fills = content_fills w.files.held k.thing k.thing.image k.why.bytes (λ name. right.disks j k.thing name k.at) k.why.read in
-    absurd (omega (arith, fills, k.why.len_is, k.why.room_is, k.why.over))
-unmissed w (File name) e right (TooLong (ImageOf i)) k = absurd (not_too_long (w.files.held k.thing.image) image_limit (IsTaken k.thing) (right.images i k.thing k.at) k.why)
-unmissed w (File name) e right (TooLong (DiskOf j)) k = absurd (not_too_long (w.files.held k.why.0) disk_limit (Fills k.thing) (right.disks j k.thing k.why.0 k.at k.why.1) k.why.2)
-unmissed w (File name) e right (ReadFault (ImageOf i)) k = (λ calm. calm, λ files out. absurd (files k.why.rose))
-unmissed w (File name) e right (ReadFault (DiskOf j)) k = (λ calm. calm, λ files out. absurd (files k.why.2.rose))
-unmissed w (File name) e right _ h = absurd h
-
-module _ (w : World) (e : Experiment) (may : MayRun w.words w.files.held e) (enough : Suffices e w.stock) where
+module _ (laws : Laws) (w : World) (e : Experiment) (may : MayRun w.words w.files.held e) (enough : Suffices e w.stock) where
   run_done : (s : Status) → TaskEnds w may.origin (Run may.host_ticks may.view) e s → (s ≡ Done) ⊎ IsHurt w s
   run_done Done h = inl refl
   run_done WriteFault h = inr (λ calm. calm, λ files out. absurd (out h.0))
   run_done Memory h = inr (λ calm. calm, λ files out. refl)
-  run_done (Over slot need have) h = absurd (no_overload e (placed e) _ (it_fits w.words w.files.held may.origin (Run may.host_ticks may.view) e may.asks.command may.asks.told may.right) h.0)
-  run_done (Build (NoDevice k wanted had)) (quiet, fits, l) = absurd (omega (arith, enough.of k, l.holds.wanted, l.holds.had_is, l.holds.short))
-  run_done s h = inr (unmissed w may.origin e may.right s h.2)
+  run_done (Over slot need have) h =
+      absurd (no_overload e (placed e) _ (it_fits laws w.words w.files.held may.origin (Run may.host_ticks may.view) e may.asks.command may.asks.told may.right) h.0)
+  run_done (TooLong f) h = inr (unopened w e enough may.origin may.right (open_is.TooLong f) h.2)
+  run_done (ReadFault f) h = inr (unopened w e enough may.origin may.right (open_is.ReadFault f) h.2)
+  run_done (Build f) h = inr (unopened w e enough may.origin may.right (open_is.Build f) h.2)
+  run_done s h = absurd h
 
   done_or_hurt : {s : Status} → Ends w s → (s ≡ Done) ⊎ IsHurt w s
   done_or_hurt ends =
       of_task w may.origin (Run may.host_ticks may.view) e may.asks (λ s. (s ≡ Done) ⊎ IsHurt w s) (λ rose. inr (λ calm. calm, λ files out. absurd (files rose))) (λ quiet. inr (λ calm. calm, λ files out. refl)) run_done ends
 
-pub completes : {w : World} {s : Status} → Ends w s → Completes w s
-completes {w} ends = λ e may enough files out. elim (done_or_hurt w e may enough ends) [ inl done ↦ inl done | inr hurt ↦ inr (hurt.1 files out) ]
+pub completes : {w : World} {s : Status} → Laws → Ends w s → Completes w s
+completes {w} laws ends = λ e may enough files out. elim (done_or_hurt laws w e may enough ends) [ inl done ↦ inl done | inr hurt ↦ inr (hurt.1 files out) ]
 
 -- A plan is put.
 plans : (w : World) (o : Origin) (e : Experiment) (s : Status) → TaskEnds w o Plan e s → Plans e (placed e) w.out w.out_after s
@@ -141,27 +174,24 @@ judged w o t e (Over slot need have) h calm =
     record { accepted = λ fits p same. no_overload e (placed e) _ fits h.0; refused = λ none. (record { slot = slot; need = need; have = have }, h.0, refl) }
 judged w o t e WriteFault h calm = absurd calm
 judged w o t e Memory h calm = absurd calm
-judged w o (Run n view) e s h calm = record { accepted = λ fit p same. cc same; refused = λ over. absurd (over h.1) }
-judged w o Plan e s h calm = absurd h
+judged w o t e (TooLong f) h calm = absurd calm
+judged w o t e (ReadFault f) h calm = absurd calm
+judged w o (Run n view) e (Build f) h calm = record { accepted = λ fit p same. cc same; refused = λ over. absurd (over h.1) }
+judged w o t e s h calm = absurd h
 
 -- What a complete journal tells of a guest up to the end of a host tick.
-traced : (e : Experiment) (i : Inputs) (n : ℕ) (j : List Entry) → IsComplete (run_rules e (placed e) i n) j
-    → (t : ℕ) → t ≤ n → (g : ℕ) → g < length e.guests.items → IsTraced e i t g (up_to_tick t j)
-traced e i n j complete t few g lt =
-    let r = run_rules e (placed e) i n in
-    let told = tells r (up_to_tick t j) g (record { ticks = refl; trace = refl }) (legal_up_to r j start t complete.legal) in
-    record {
-      virtual_tick = count_of g (up_to_tick t j);
-      records = told.records;
-      far_enough = kept_up r j t g (record { ticks = refl; trace = refl }) complete.legal (past_complete r j t complete) few lt;
-      counted = refl;
-      paid = told.clock;
-    }
+traced : Laws → (e : Experiment) (i : Inputs) (n : ℕ) (j : List Entry) → IsComplete (run_rules e (placed e) i n) j → (t : ℕ) → t ≤ n → (g : ℕ) → g < length e.guests.items
+    → IsTraced e i t g (up_to_tick t j)
+traced laws e i n j complete t few g lt =
+    let p = plan e (placed e) n in
+    let told = laws.told (setup e i) p j t g complete in
+    let far = laws.kept_up (setup e i) p j t g complete few lt in
+    record { virtual_tick = count_of g (up_to_tick t j); records = told.records; far_enough = far; counted = refl; paid = told.clock }
 
-printed : (w : World) (o : Origin) (n : ℕ) (view : View) (e : Experiment) → TaskEnds w o (Run n view) e Done → IsPrinted w o n view e
-printed w o n view e (fits, run) =
+printed : Laws → (w : World) (o : Origin) (n : ℕ) (view : View) (e : Experiment) → TaskEnds w o (Run n view) e Done → IsPrinted w o n view e
+printed laws w o n view e (fits, run) =
     let (head, head_is, (journal, complete, taken)) = run.holds in
-    record { inputs = run.inputs; loaded = run.loaded; head = head; head_is = head_is; journal = journal; taken = taken; schedule = complete; traces = traced e run.inputs n journal complete }
+    record { inputs = run.inputs; loaded = run.loaded; head = head; head_is = head_is; journal = journal; taken = taken; schedule = complete; traces = traced laws e run.inputs n journal complete }
 
 -- What was put where memory or the output failed.
 cut_short : {w : World} {s : Status} → Ends w s → (s ≡ Memory) ⊎ (s ≡ WriteFault) → Quiet w ⊎ IsPartPut w
@@ -170,12 +200,12 @@ cut_short (no_experiment quiet h) cut = inl quiet
 cut_short {w} (ended o t e k h) (inl memory) = inr (record { origin = o; task = t; experiment = e; asked = k; part = subst (TaskEnds w o t e) memory h })
 cut_short {w} (ended o t e k h) (inr failed) = inr (record { origin = o; task = t; experiment = e; asked = k; part = (subst (TaskEnds w o t e) failed h).1 })
 
-pub headline : {w : World} {s : Status} → Ends w s → (s ≢ WriteFault → w.out_after.faults ≡ w.out.faults) → Headline w s
-headline {w} ends unfailed = record {
+pub headline : {w : World} {s : Status} → Laws → Ends w s → (s ≢ WriteFault → w.out_after.faults ≡ w.out.faults) → Headline w s
+headline {w} laws ends unfailed = record {
   accepted = λ o t e asks. of_task w o t e asks (λ s. IsUndisturbed s → IsJudged e s) (λ rose calm. absurd calm) (λ quiet calm. absurd calm) (judged w o t e) ends;
-  runs = λ e may enough calm. elim (done_or_hurt w e may enough ends) [ inl done ↦ done | inr hurt ↦ absurd (hurt.0 calm) ];
+  runs = λ e may enough calm. elim (done_or_hurt laws w e may enough ends) [ inl done ↦ done | inr hurt ↦ absurd (hurt.0 calm) ];
   printed = λ o n view e asks. of_task w o (Run n view) e asks (λ s. s ≡ Done → IsPrinted w o n view e) (λ rose same. absurd (cc same)) (λ quiet same. absurd (cc same))
-      (λ s h same. printed w o n view e (subst (TaskEnds w o (Run n view) e) same h)) ends;
+      (λ s h same. printed laws w o n view e (subst (TaskEnds w o (Run n view) e) same h)) ends;
   cut_short = cut_short ends;
   unfailed = unfailed;
 }
@@ -183,12 +213,14 @@ headline {w} ends unfailed = record {
 -- What is said of a status whose line is made is said of want of memory too.
 task_memory : {w : World} (o : Origin) (t : Task) (e : Experiment) (s : Status) → is_made s ≡ true → IsAsked w.words w.files.held o t e → TaskEnds w o t e s → Ends w Memory
 task_memory o (Run n view) e (Over slot need have) made k (over, quiet) = no_memory quiet
-task_memory {w} o Plan e (Over slot need have) made k (over, (l, least, takes)) = ended o Plan e k (l, least, part_whole w.out.taken w.out_after.taken (plan_text e (placed e) l) takes)
+task_memory {w} o Plan e (Over slot need have) made k (over, (l, least, takes)) = ended o Plan e k (l, least, part_whole w.out.taken w.out_after.taken _ takes)
 task_memory o t e Done made k h = absurd (cc made)
 task_memory o t e WriteFault made k h = absurd (cc made)
 task_memory o t e Memory made k h = absurd (cc made)
-task_memory o (Run n view) e s made k h = no_memory h.0
-task_memory o Plan e s made k h = absurd h
+task_memory o (Run n view) e (TooLong f) made k h = no_memory h.0
+task_memory o (Run n view) e (ReadFault f) made k h = no_memory h.0
+task_memory o (Run n view) e (Build f) made k h = no_memory h.0
+task_memory o t e s made k h = absurd h
 
 ends_memory : {w : World} {s : Status} → is_made s ≡ true → Ends w s → Ends w Memory
 ends_memory made (no_memory quiet) = no_memory quiet
@@ -209,22 +241,19 @@ unfailed_told unfailed (inr (memory, made)) other = unfailed (λ fault. cc (subs
 abbrev pub IsGiven : Experiment → Type 0
 IsGiven e = ((b : List ℕ) × Says b e) ⊎ ((n : ℕ) × (2 ≤ n) × (n ≤ 32) × (e ≡ ring n))
 
-load_given : (words : List (List ℕ)) (n : ℕ) (t : Task) (e : Experiment) → AreFor words (Load n) t → e ≡ ring n → IsGiven e
-load_given words n t e c same = let (low, high) = few_guests words n t c in inr (n, low, high, same)
+load_given : AreInRange → (words : List (List ℕ)) (n : ℕ) (t : Task) (e : Experiment) → AreFor words (Load n) t → e ≡ ring n → IsGiven e
+load_given ranges words n t e c same = let (low, high) = few_guests ranges words n t c in inr (n, low, high, same)
 
-read_given : (words : List (List ℕ)) (held : List ℕ → Option (List ℕ)) (o : Origin) (t : Task) (e : Experiment) → IsAsked words held o t e → IsGiven e
-read_given words held (File name) t e k = inl (k.from.bytes, k.from.holds)
-read_given words held (Load n) t e k = load_given words n t e k.command k.from
-
-told_given : (words : List (List ℕ)) (held : List ℕ → Option (List ℕ)) (o : Origin) (t : Task) (e : Experiment) → Asks words held o t e → IsGiven e
-told_given words held (File name) t e k = inl (k.told.bytes, k.told.holds)
-told_given words held (Load n) t e k = load_given words n t e k.command k.told
-
-pub run_given : {words : List (List ℕ)} {held : List ℕ → Option (List ℕ)} {e : Experiment} → MayRun words held e → IsGiven e
-run_given {words} {held} {e} may = told_given words held may.origin (Run may.host_ticks may.view) e may.asks
+pub run_given : {words : List (List ℕ)} {held : List ℕ → Option (List ℕ)} {e : Experiment} → AreInRange → MayRun words held e → IsGiven e
+run_given {words} {held} {e} ranges may = by may.origin may.asks
+  where
+    by : (o : Origin) → Asks words held o (Run may.host_ticks may.view) e → IsGiven e
+    by (File name) k = inl (k.told.bytes, k.told.holds)
+    by (Load n) k = load_given ranges words n (Run may.host_ticks may.view) e k.command k.told
 
 -- where a device is wanting, it is so of an experiment that is given
-pub short_of : {w : World} (k : Kind) (wanted had : ℕ) → Ends w (Build (NoDevice k wanted had)) → (e : Experiment) × IsGiven e × IsShort e w.stock (NoDevice k wanted had)
-short_of k wanted had (no_experiment quiet h) = absurd h
-short_of k wanted had (ended o Plan e asked h) = absurd h
-short_of {w} k wanted had (ended o (Run n view) e asked h) = (e, read_given w.words w.files.held o (Run n view) e asked, h.2.holds)
+pub short_of : {w : World} (k : Kind) (wanted had : ℕ) → AreInRange → Ends w (Build (NoDevice k wanted had)) → (e : Experiment) × IsGiven e × IsShort e w.stock (NoDevice k wanted had)
+short_of k wanted had ranges (no_experiment quiet h) = absurd h
+short_of k wanted had ranges (ended o Plan e asked h) = absurd h
+short_of {w} k wanted had ranges (ended (File name) (Run n view) e asked h) = (e, inl (asked.from.bytes, asked.from.holds), h.2.holds)
+short_of {w} k wanted had ranges (ended (Load m) (Run n view) e asked h) = (e, load_given ranges w.words m (Run n view) e asked.command asked.from, h.2.holds)

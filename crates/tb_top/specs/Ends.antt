@@ -11,18 +11,18 @@ use Rattle.host_plan.specs.Placing.{placed}
 use Rattle.plan_text.specs.Puts.{PutsPlan, PutsPlanPart}
 use Rattle.bench_build.specs.Answers.{IsTaken, Fills}
 use Rattle.bench_build.specs.Stocks.{Suffices}
-use Rattle.tb_top.specs.declared.status.FileId.TheVariants as file
+use Rattle.open_images.specs.Reads.{FilesSeen, HasRead, IsTooLong, FailedAt, image_limit, disk_limit}
+use Rattle.open_images.specs.declared.file_id.FileId.TheVariants as file
+use Rattle.open_images.specs.declared.open_fault.OpenFault.{OpenFault}
+use Rattle.open_images.specs.declared.open_fault.OpenFault.TheVariants as open_is
 use Rattle.tb_top.specs.declared.status.Status.{Status}
-use Rattle.tb_top.specs.declared.status.Status.TheVariants.{Done, Overload, Usage, Experiment as Refused, TooLong, ReadFault, WriteFault, Memory}
+use Rattle.tb_top.specs.declared.status.Status.TheVariants.{Done, Overload, Usage, Experiment as Refused, Build, TooLong, ReadFault, WriteFault, Memory}
 use Rattle.gen_load.specs.Loads.{ring}
 use Rattle.words_line.specs.Words.{command}
-use Rattle.tb_top.specs.declared.task.Task.{Task}
-use Rattle.tb_top.specs.declared.task.Task.TheVariants.{Run, Plan}
-use Rattle.tb_top.specs.Benches.{Unbuilt, PutsRun, PutsRunPart}
-use Rattle.tb_top.specs.Origins.{Origin, File, Load, AreFor, IsFrom}
+use Rattle.tb_top.specs.Benches.{IsUnopened, PutsRun, PutsRunPart}
+use Rattle.tb_top.specs.Origins.{Origin, File, Load, Task, Run, Plan, AreFor, IsFrom, Says, experiment_limit}
 use Rattle.tb_top.specs.Plans.{Plans}
-use Rattle.tb_top.specs.Reads.{HasRead, IsTooLong, FailedAt, Says, experiment_limit, image_limit, disk_limit}
-use Rattle.tb_top.specs.World.{FilesSeen, World, Quiet}
+use Rattle.tb_top.specs.World.{World, Quiet}
 
 -- the words ask for some task with the experiment in a file, and this holds of its name
 pub record Names (words : List (List ℕ)) (P : List ℕ → Type 0) : Type 0 where
@@ -59,14 +59,20 @@ abbrev pub PutsOver : World → Task → Experiment → Type 0
 PutsOver w (Run n view) e = Quiet w
 PutsOver w Plan e = PutsPlan e (placed e) w.out.taken w.out_after.taken
 
+-- nothing was put of a run that fits, whose bench was not opened
+abbrev pub IsUnrun : World → Origin → Experiment → OpenFault → Type 0
+IsUnrun w o e f = Quiet w × Fits e (placed e) × IsUnopened w o e f
+
 -- what a status says of a task with an experiment
 abbrev pub TaskEnds : World → Origin → Task → Experiment → Status → Type 0
 TaskEnds w o task e Done = Fits e (placed e) × PutsTask w o task e
 TaskEnds w o task e (Overload slot need have) = IsFirstOverload e (placed e) (record { slot = slot; need = need; have = have }) × PutsOver w task e
 TaskEnds w o task e WriteFault = Rose w.out.faults w.out_after.faults × PutsTaskPart w o task e
 TaskEnds w o task e Memory = PutsTaskPart w o task e
-TaskEnds w o (Run n view) e s = Quiet w × Fits e (placed e) × Unbuilt w.files w.files_after w.stock o e s
-TaskEnds w o Plan e s = ⊥
+TaskEnds w o (Run n view) e (TooLong f) = IsUnrun w o e (open_is.TooLong f)
+TaskEnds w o (Run n view) e (ReadFault f) = IsUnrun w o e (open_is.ReadFault f)
+TaskEnds w o (Run n view) e (Build f) = IsUnrun w o e (open_is.Build f)
+TaskEnds w o task e s = ⊥
 
 -- what a status says: nothing was put, and memory ran out, or there is no experiment; or the words ask for an experiment, and so the task with it ended
 pub data Ends (w : World) : Status → Type 0 where

@@ -18,15 +18,13 @@ use Rattle.bench_build.specs.Inputs.{Inputs}
 use Rattle.bench_build.specs.Setups.{setup, run_rules}
 use Rattle.bench_build.specs.Stocks.{Suffices}
 use Rattle.tb_top.specs.Ends.{Asks, MayRun, IsPartPut}
-use Rattle.tb_top.specs.Origins.{Origin, AreInputs}
-use Rattle.tb_top.specs.Runs.{IsHead}
+use Rattle.tb_top.specs.Origins.{Origin, Task, Run, AreInputs}
+use Rattle.run_views.specs.Runs.{IsHead}
 use Rattle.tb_top.specs.Statuses.{over_status}
-use Rattle.tb_top.specs.Texts.{text}
+use Rattle.run_views.specs.Texts.{text}
 use Rattle.tb_top.specs.World.{World, Quiet}
 use Rattle.tb_top.specs.declared.status.Status.{Status}
 use Rattle.tb_top.specs.declared.status.Status.TheVariants.{Done, TooLong, ReadFault, WriteFault, Memory}
-use Rattle.tb_top.specs.declared.task.Task.{Task}
-use Rattle.tb_top.specs.declared.task.Task.TheVariants.{Run}
 
 -- neither memory nor a file nor the output failed
 abbrev pub IsUndisturbed : Status → Type 0

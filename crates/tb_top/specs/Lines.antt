@@ -18,8 +18,8 @@ use Rattle.bench_build.specs.declared.build_fault.BuildFault.{BuildFault}
 use Rattle.bench_build.specs.declared.build_fault.BuildFault.TheVariants as build
 use Rattle.words_line.specs.declared.word_fault.WordFault.{WordFault}
 use Rattle.words_line.specs.declared.word_fault.WordFault.TheVariants.{NotWords, UnknownCommand, EmptyName, ExtraOption, MissingOption, BadNumber, BadView}
-use Rattle.tb_top.specs.declared.status.FileId.{FileId}
-use Rattle.tb_top.specs.declared.status.FileId.TheVariants as file
+use Rattle.open_images.specs.declared.file_id.FileId.{FileId}
+use Rattle.open_images.specs.declared.file_id.FileId.TheVariants as file
 use Rattle.tb_top.specs.declared.status.Status.{Status}
 use Rattle.tb_top.specs.declared.status.Status.TheVariants.{Done, Overload, Usage, Experiment, Build, TooLong, ReadFault, WriteFault, Memory}
 

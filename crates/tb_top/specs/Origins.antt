@@ -1,21 +1,26 @@
 -- What a command asks for: where its experiment comes from, and what is done with it.
-use Rattle.std.specs.Prelude.{◌≡◌, ◌≤◌, ℕ, List, [], Option, Some, None, Ok}
-use Rattle.tb_base.specs.Items.{Items}
+use Rattle.std.specs.Prelude.{◌≡◌, ℕ, List, Option, Ok}
+use Rattle.trace_rec.specs.declared.view.View.{View}
 use Rattle.trace_rec.specs.declared.view.View.TheVariants.{Summary}
+use Rattle.exp_file.specs.Reading.{reading}
 use Rattle.exp_file.specs.declared.experiment.Experiment.{Experiment}
 use Rattle.bench_build.specs.Inputs.{Inputs}
 use Rattle.gen_load.specs.Loads.{ring, ring_images}
 use Rattle.words_line.specs.Words.{command}
 use Rattle.words_line.specs.declared.command.Command.{Command}
 use Rattle.words_line.specs.declared.command.Command.TheVariants as command_is
-use Rattle.tb_top.specs.Reads.{HasRead, Says, AreLoaded, experiment_limit}
-use Rattle.tb_top.specs.declared.task.Task.{Task}
-use Rattle.tb_top.specs.declared.task.Task.TheVariants.{Run, Plan}
+use Rattle.open_images.specs.Openings.{images_alone}
+use Rattle.open_images.specs.Reads.{HasRead, AreRead}
 
 -- the experiment is that of a file with this name, or the generated load of so many guests
 pub data Origin : Type 0 where
   File : List ℕ → Origin
   Load : ℕ → Origin
+
+-- what is done with it: it is run for so many host ticks and shown in this view, or its plan is put
+pub data Task : Type 0 where
+  Run : ℕ → View → Task
+  Plan : Task
 
 abbrev pub origin_of : Command → Origin
 origin_of (command_is.Run file host_ticks view) = File file
@@ -35,26 +40,19 @@ pub record AreFor (words : List (List ℕ)) (o : Origin) (task : Task) : Type 0 
   pub origin : origin_of given ≡ o
   pub task_is : task_of given ≡ task
 
+-- the bytes that an experiment file may have, and what they say
+abbrev pub experiment_limit : ℕ
+experiment_limit = 1048576
+
+abbrev pub Says : List ℕ → Experiment → Type 0
+Says b e = reading b ≡ Ok e
+
 -- the experiment of an origin: the bytes that were read of the file say it, or it is the load
 abbrev pub IsFrom : (List ℕ → Option (List ℕ)) → Origin → Experiment → Type 0
 IsFrom held (File name) e = HasRead (held name) experiment_limit (λ b. Says b e)
 IsFrom held (Load n) e = e ≡ ring n
 
--- images alone, of guests without disks
-abbrev pub images_alone : List (List ℕ) → Inputs
-images_alone images = record { images = images; disks = [] }
-
 -- what its guests and disks start with: their files were read and taken, or it is made with the load, which has no disks
 abbrev pub AreInputs : (List ℕ → Option (List ℕ)) → Origin → Experiment → Inputs → Type 0
-AreInputs held (File name) e i = AreLoaded held e.guests.items e.disks.items i
+AreInputs held (File name) e i = AreRead held e i
 AreInputs held (Load n) e i = i ≡ images_alone (ring_images n)
-
--- the images that come with an experiment of this origin: those of a load
-abbrev pub Brings : Origin → Option (Items (List ℕ)) → Type 0
-Brings (File name) images = images ≡ None
-Brings (Load n) images = (l : Items (List ℕ)) × (images ≡ Some l) × (l.items ≡ ring_images n)
-
--- a task that asks for no more host ticks than a run may have
-abbrev pub IsWithinLimit : Task → Type 0
-IsWithinLimit (Run host_ticks view) = host_ticks ≤ 1000000
-IsWithinLimit Plan = Unit {0}

@@ -3,11 +3,11 @@ use Rattle.std.specs.Prelude.{Result, Ok, Err}
 use Rattle.tb_io.specs.declared.files.ReadErr.{ReadErr}
 use Rattle.tb_io.specs.declared.files.ReadErr.TheVariants as read
 use Rattle.host_plan.specs.declared.overload.Overload.{Overload as Over}
-use Rattle.bench_build.specs.declared.build_fault.BuildFault.{BuildFault}
-use Rattle.bench_build.specs.declared.build_fault.BuildFault.TheVariants as build
 use Rattle.tb_io.specs.declared.write_err.WriteErr.{WriteErr}
 use Rattle.tb_io.specs.declared.write_err.WriteErr.TheVariants as write
-use Rattle.tb_top.specs.declared.status.FileId.{FileId}
+use Rattle.open_images.specs.declared.file_id.FileId.{FileId}
+use Rattle.open_images.specs.declared.open_fault.OpenFault.{OpenFault}
+use Rattle.open_images.specs.declared.open_fault.OpenFault.TheVariants as open_is
 use Rattle.tb_top.specs.declared.status.Status.{Status}
 use Rattle.tb_top.specs.declared.status.Status.TheVariants.{Done, Overload, Build, TooLong, ReadFault, WriteFault, Memory}
 
@@ -21,10 +21,12 @@ read_status f read.NoMemory = Memory
 abbrev pub over_status : Over → Status
 over_status o = Overload o.slot o.need o.have
 
--- of a bench that was not built
-abbrev pub build_status : BuildFault → Status
-build_status build.NoMemory = Memory
-build_status f = Build f
+-- of a bench that was not opened
+abbrev pub open_status : OpenFault → Status
+open_status (open_is.TooLong f) = TooLong f
+open_status (open_is.ReadFault f) = ReadFault f
+open_status (open_is.Build f) = Build f
+open_status open_is.Memory = Memory
 
 -- of a bench that was run
 abbrev pub run_status : Result (Unit {0}) WriteErr → Status

@@ -1,24 +1,16 @@
--- What is seen of files and of sinks, and all that the clauses of the top call speak of.
+-- What is seen of sinks, and all that the clauses of the top call speak of.
 use Rattle.std.specs.Prelude.{◌≡◌, ℕ, List, [], ◌∷◌, map, Option, String, string_bytes, Vec}
 use Rattle.dev_face.specs.declared.kind.Kind.{Kind}
 use Rattle.bench_build.specs.declared.stock.Stock.{Stock}
 use Rattle.bench_build.specs.Stocks.{counts}
 use Rattle.tb_io.specs.declared.files.Files.{Ghosts as FilesWords}
 use Rattle.tb_io.specs.declared.sink.Sink.{Ghosts as SinkWords}
-
--- what each name holds, where that is told, the count of faults, and the name whose read failed last
-pub record FilesSeen : Type 0 where
-  pub held : List ℕ → Option (List ℕ)
-  pub faults : ℕ
-  pub fault_name : List ℕ
+use Rattle.open_images.specs.Reads.{FilesSeen, files_seen}
 
 -- the bytes taken, where they are told, and the count of faults
 pub record SinkSeen : Type 0 where
   pub taken : Option (List ℕ)
   pub faults : ℕ
-
-abbrev pub files_seen : {F : Type 0} → FilesWords F → F → FilesSeen
-files_seen G files = record { held = G.held files; faults = G.faults files; fault_name = G.fault_name files }
 
 abbrev pub sink_seen : {O : Type 0} → SinkWords O → O → SinkSeen
 sink_seen G sink = record { taken = G.taken sink; faults = G.faults sink }

@@ -1,20 +1,17 @@
 //! The top call: from a command's words to its lines and its status.
 #![tactic(auto)]
 
-mod ask;
-mod build;
+mod experiment_file;
 mod fault_words;
-mod law;
-mod load;
-mod load_generated;
+mod placing;
 mod report;
-mod run;
 mod status;
-mod task;
+mod tasks;
 mod top;
 
 pub use bench_build::Stock;
-pub use law::traces_do_not_depend_on_slots;
-pub use status::{FileId, Status};
+pub use open_images::FileId;
+pub use run_views::traces_do_not_depend_on_slots;
+pub use status::Status;
 pub use top::diecast;
 pub use words_line::WordFault;

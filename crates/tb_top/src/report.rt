@@ -4,10 +4,11 @@ ghost use Rattle.tb_top.specs.Lines.{file_words, fault_words, build_words, image
 ghost use Rattle.tb_top.specs.Lines.{status_line, is_made, SaysLine, Told};
 
 use crate::fault_words::{elf_word, kind_word, section_word, usage_word, why_word};
-use crate::status::{FileId, Status};
+use crate::status::Status;
 use bench_build::{BuildFault, ImageFault};
 use elf_image::ElfFault;
 use exp_file::ExpFault;
+use open_images::FileId;
 use std::alloc::Global;
 use tb_base::{Bytes, NoMemory};
 use tb_io::Sink;

@@ -1,22 +1,13 @@
 //! How a command ends.
 ghost use Rattle.std.specs.Prelude.{◌≡◌};
-ghost use Rattle.tb_top.specs.Statuses.{read_status, over_status, build_status, run_status};
+ghost use Rattle.tb_top.specs.Statuses.{read_status, over_status, open_status, run_status};
 
 use bench_build::BuildFault;
 use exp_file::ExpFault;
 use host_plan::Overload;
+use open_images::{FileId, OpenFault};
 use tb_io::{ReadErr, WriteErr};
 use words_line::WordFault;
-
-/// A file that a command reads.
-#[derive(Clone, Copy, Debug, PartialEq, Eq)]
-pub enum FileId {
-    Experiment,
-    /// The image of this guest.
-    Image(u32),
-    /// The image of this disk.
-    Disk(u32),
-}
 
 /// How a command ended.
 #[derive(Debug, Drop)]
@@ -63,13 +54,15 @@ pub(crate) fn over_status(over: Overload) -> Status
     }
 }
 
-/// The status of a bench that was not built.
-pub(crate) fn build_status(fault: BuildFault) -> Status
-    ensures { result ≡ build_status fault }
+/// The status of a bench that was not opened.
+pub(crate) fn open_status(fault: OpenFault) -> Status
+    ensures { result ≡ open_status fault }
 {
     match fault {
-        BuildFault::NoMemory => Status::Memory,
-        fault => Status::Build(fault),
+        OpenFault::TooLong { file } => Status::TooLong { file },
+        OpenFault::ReadFault { file } => Status::ReadFault { file },
+        OpenFault::Build(fault) => Status::Build(fault),
+        OpenFault::Memory => Status::Memory,
     }
 }
 

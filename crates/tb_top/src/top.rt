@@ -1,28 +1,20 @@
 //! The top call.
-ghost use Rattle.std.specs.Prelude.{◌≡◌, ◌≢◌, ℕ, ◌≤◌, List};
-ghost use Rattle.exp_file.specs.Lists.{without_room};
+ghost use Rattle.std.specs.Prelude.{◌≡◌, ◌≢◌};
 ghost use Rattle.bench_build.specs.Stocks.{IsStock, counts, items_of};
-ghost use Rattle.tb_top.specs.Asking.{IsReady};
-ghost use Rattle.tb_top.specs.Ends.{Ends, Completes, IsAsked, IsPlanned};
+ghost use Rattle.tb_top.specs.Ends.{Ends, Completes, IsPlanned};
 ghost use Rattle.tb_top.specs.Headline.{Headline};
 ghost use Rattle.tb_top.specs.Lines.{Told};
-ghost use Rattle.tb_top.specs.Origins.{Origin, Brings};
-ghost use Rattle.tb_top.specs.Plans.{Plans};
-ghost use Rattle.tb_top.specs.World.{by_kind, sink_seen, sizes, texts, world};
+ghost use Rattle.tb_top.specs.World.{by_kind, sizes, texts, world};
 
-use crate::ask::{Asked, ask};
-use crate::build::build;
 use crate::report::tell;
-use crate::run::run;
-use crate::status::{Status, over_status, run_status};
-use crate::task::Task;
+use crate::status::Status;
+use crate::tasks::{plan_file, run_file, run_load};
 use bench_build::Stock;
 use dev_face::Device;
-use host_plan::check;
-use plan_text::put_plan;
+use gen_load::loads_are_right;
 use std::alloc::Global;
-use tb_io::{Files, Sink, WriteErr};
-use trace_rec::View;
+use tb_io::{Files, Sink};
+use words_line::{Command, WordsErr, commands_are_in_range, read_words};
 
 /// Runs a command: `words` are its words after the program's own name. What it reads comes from
 /// `files`, what it prints goes to `out`, one whole line a put, and why it did not end well is put
@@ -67,6 +59,8 @@ pub fn diecast<F: Files, O: Sink, M: Sink>(
         blks,
         nets,
     } = stock;
+    commands_are_in_range();
+    loads_are_right();
     let status = work(alloc, words, files, out, [clints, uarts, blks, nets]);
     tell(alloc, status, msg)
 }
@@ -83,60 +77,19 @@ fn work<F: Files, O: Sink, D: Device>(
     ensures ends { Ends (world (texts words.now) F.Files files.old files.new O.Sink out.old out.new (counts (items_of stock))) result }
     ensures unfailed { result ≢ Status.WriteFault → O.faults out.new ≡ O.faults out.old }
 {
-    let asked = match ask(alloc, words, files) {
-        Ok(asked) => asked,
-        Err(status) => return status,
+    commands_are_in_range();
+    let command = match read_words(alloc, words) {
+        Ok(command) => command,
+        Err(WordsErr::Fault(fault)) => return Status::Usage(fault),
+        Err(WordsErr::NoMemory) => return Status::Memory,
     };
-    match asked.task {
-        Task::Run { host_ticks, view } => {
-            run_asked(alloc, files, &asked, host_ticks, view, out, stock)
-        }
-        Task::Plan => put_asked(alloc, &asked, out),
-    }
-}
-
-/// Runs an experiment: its bench is built of what its guests and disks start with and the devices, and run.
-fn run_asked<F: Files, O: Sink, D: Device>(
-    alloc: Global,
-    files: &mut F,
-    asked: &Asked,
-    host_ticks: u64,
-    view: View,
-    out: &mut O,
-    stock: [Vec<D>; 4],
-) -> Status
-    requires ready { IsReady asked.now }
-    requires few { host_ticks ≤ 1000000 }
-    requires stock { IsStock D.state (items_of stock) }
-    ensures ends { (words : List (List ℕ)) (o : Origin) →
-        IsAsked words (F.held files.old) o (Task.Run host_ticks view) (without_room asked.now.experiment) → Brings o asked.now.images →
-        Ends (world words F.Files files.old files.new O.Sink out.old out.new (counts (items_of stock))) result }
-    ensures unfailed { result ≢ Status.WriteFault → O.faults out.new ≡ O.faults out.old }
-{
-    match check(&asked.experiment, &asked.placement) {
-        Ok(()) => (),
-        Err(over) => return over_status(over),
-    }
-    let bench = match build(alloc, files, asked, stock) {
-        Ok(bench) => bench,
-        Err(status) => return status,
-    };
-    run_status(run(alloc, &asked.experiment, host_ticks, view, bench, out))
-}
-
-/// Puts the plan of an experiment, and says whether it fits.
-fn put_asked<O: Sink>(alloc: Global, asked: &Asked, out: &mut O) -> Status
-    requires ready { IsReady asked.now }
-    ensures plans { Plans asked.now.experiment asked.now.placement.slots.items (sink_seen O.Sink out.old) (sink_seen O.Sink out.new) result }
-    ensures unfailed { result ≢ Status.WriteFault → O.faults out.new ≡ O.faults out.old }
-{
-    match put_plan(alloc, &asked.experiment, &asked.placement, out) {
-        Ok(()) => (),
-        Err(WriteErr::NoMemory) => return Status::Memory,
-        Err(WriteErr::Failed) => return Status::WriteFault,
-    }
-    match check(&asked.experiment, &asked.placement) {
-        Ok(()) => Status::Done,
-        Err(over) => over_status(over),
+    match command {
+        Command::Run {
+            file,
+            host_ticks,
+            view,
+        } => run_file(alloc, files, file.as_str(), host_ticks, view, out, stock),
+        Command::Plan { file } => plan_file(alloc, files, file.as_str(), out),
+        Command::Gen { n, host_ticks } => run_load(alloc, n, host_ticks, out, stock),
     }
 }

@@ -1,5 +1,4 @@
-use Rattle.std.proofs.Common.{◌≡◌, ◌++◌, map, take}
-use Rattle.tb_top.specs.Lines.{shown_byte}
+use Rattle.tb_top.proofs.Common.{◌≡◌, ◌++◌, map, take, shown_byte}
 use Rattle.tb_top.proofs.report.add_key.Given as goal
 
 abbrev pub invariant-loop-b : goal.invariant-loop-b

@@ -1,0 +1,3 @@
+-- Claims: Texts and Runs.
+pub mod Runs
+pub mod Texts

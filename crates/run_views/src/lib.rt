@@ -1,0 +1,8 @@
+//! The run of a bench, and what is put of it in each view.
+#![tactic(auto)]
+
+mod law;
+mod runs;
+
+pub use law::traces_do_not_depend_on_slots;
+pub use runs::run;

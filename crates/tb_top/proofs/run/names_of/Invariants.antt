@@ -1,5 +1,0 @@
-use Rattle.std.proofs.Common.{◌≡◌, map, take}
-use Rattle.tb_top.proofs.run.names_of.Given as goal
-
-abbrev pub invariant-loop-guest : goal.invariant-loop-guest
-invariant-loop-guest l = l.names.items ≡ map (λ g. g.name) (take l.guest-index l.guests)
