@@ -18,5 +18,5 @@ disk_state d = record {
   notified = d.notified;
   active = active_state d.active;
   server = d.server;
-  content = d.content.items;
+  content = d.content.bytes;
 }

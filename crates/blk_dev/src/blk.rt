@@ -1,7 +1,9 @@
 //! The device.
-ghost use Rattle.std.specs.Prelude.{◌≡◌};
-ghost use Rattle.blk_dev.specs.BlkView.{blk_state};
-ghost use Rattle.dev_face.specs.States.{Blank};
+ghost use Rattle.std.specs.Prelude.{◌≡◌, ◌+◌, ◌≤◌, ◌^◌, [], ◌++◌, length, count_by, OnOk, OnErr};
+ghost use Rattle.dev_face.specs.States.{Blank, IsSetUp, IsBlankFor, IsInLimits, IsComing, MayArrive, StaysInFront, kind_of, opening};
+ghost use Rattle.dev_face.specs.Calls.{dev_begin};
+ghost use Rattle.blk_dev.specs.BlkView.{blk_state, blk_pages};
+ghost use Rattle.blk_dev.specs.MadePages.{opening_pages, MadeAt};
 ghost use Rattle.dev_face.specs.declared.kind.Kind.TheVariants as kind;
 
 use crate::disk::Disk;
@@ -14,8 +16,9 @@ use trace_rec::Log;
 
 /// A block device: a disk of whole sectors behind one queue.
 ///
-/// The memory for its content is taken when it is set up, and more only for requests in flight and for records. A store
-/// takes none.
+/// The memory for its content is taken by pages of 4096 bytes: for those with bytes of the content that it is set up with then,
+/// and for every other one when a request first writes to it, in the begin of a tick. Until then its bytes are zeros. More is
+/// taken only for requests in flight and for records. A store takes none.
 #[derive(Drop)]
 pub struct Blk {
     alloc: Global,
@@ -30,6 +33,17 @@ impl Blk {
     {
         Blk { alloc, disk: None }
     }
+
+    /// How many pages of its content are there.
+    pub fn made(&self) -> usize
+        requires { IsSetUp (blk_state self.now) }
+        ensures { result ≡ count_by (λ there. there) (blk_pages self.now).there }
+    {
+        match &self.disk {
+            Some(disk) => disk.content.made(),
+            None => 0,
+        }
+    }
 }
 
 impl Device for Blk {
@@ -39,7 +53,14 @@ impl Device for Blk {
         Kind::Blk
     }
 
-    fn set_up(&mut self, config: &DevConfig) -> Result<(), NoMemory> {
+    /// Beside what Device says, `pages`: the pages with bytes of the content given are there, and no other one.
+    fn set_up(&mut self, config: &DevConfig) -> Result<(), NoMemory>
+        requires blank { IsBlankFor config.now (blk_state self.old) }
+        requires limits { IsInLimits config.now }
+        ensures ok { OnOk result (blk_state self.new ≡ opening config.now) }
+        ensures err { OnErr result (blk_state self.new ≡ blk_state self.old) }
+        ensures pages { OnOk result ((blk_pages self.new).there ≡ opening_pages config.now) }
+    {
         match config {
             DevConfig::Blk {
                 sectors,
@@ -90,13 +111,28 @@ impl Device for Blk {
         }
     }
 
+    /// Beside what Device says, `pages`: the pages that the requests which complete write to are made, and no other one.
     fn begin_tick(
         &mut self,
         now: u64,
         ram: &mut Ram,
-        _frames: &mut ItemList<Frame>,
+        frames: &mut ItemList<Frame>,
         log: &mut Log,
-    ) -> Result<(), NoMemory> {
+    ) -> Result<(), NoMemory>
+        requires coming { IsComing now (length ram.old) (blk_state self.old) }
+        requires early { now ≤ 2 ^ 40 }
+        requires frames { MayArrive (blk_state self.old) frames.old.items }
+        ensures state { OnOk result (blk_state self.new ≡ (dev_begin (blk_state self.old) now ram.old frames.old.items).device) }
+        ensures ram { OnOk result (ram.new ≡ (dev_begin (blk_state self.old) now ram.old frames.old.items).ram) }
+        ensures emptied { OnOk result (frames.new.items ≡ []) }
+        ensures recs { OnOk result (log.new.items ≡ log.old.items ++ (dev_begin (blk_state self.old) now ram.old frames.old.items).recs) }
+        ensures coming { OnOk result (IsComing (now + 1) (length ram.new) (blk_state self.new)) }
+        ensures still { IsSetUp (blk_state self.new) }
+        ensures kind { kind_of (blk_state self.new) ≡ kind_of (blk_state self.old) }
+        ensures size { length ram.new ≡ length ram.old }
+        ensures front { StaysInFront log.old.items log.new.items }
+        ensures pages { OnOk result (MadeAt now (blk_state self.old) (blk_pages self.old) (blk_pages self.new)) }
+    {
         match &mut self.disk {
             Some(disk) => {
                 disk.begin(now, ram, log)?;

@@ -1,37 +1,117 @@
 //! How a request completes.
-ghost use Rattle.std.specs.Prelude.{◌≡◌, ℕ, ◌+◌, ◌*◌, ◌≤◌, ◌<◌, ◌^◌, true, length};
-ghost use Rattle.split_queue.specs.Streams.{stream_len, RangesIn, ChainIn};
+ghost use Rattle.std.specs.Prelude.{◌≡◌, ℕ, ◌+◌, ◌*◌, ◌/◌, ◌%◌, ◌≤◌, ◌<◌, ◌^◌, ◌⊎◌, [], ◌∷◌, OnOk, true, length, slice_range};
+ghost use Rattle.byte_pages.specs.LittleEndian.{with_bytes};
+ghost use Rattle.byte_pages.specs.Pages.{is_there, AreThere, IsTouched};
+ghost use Rattle.split_queue.specs.Streams.{stream, stream_len, written, RangesIn, ChainIn};
 ghost use Rattle.split_queue.specs.Taking.{QueueFits};
 ghost use Rattle.dev_face.specs.BlkRequests.{data_len, ram_moved, content_moved, status_put};
 ghost use Rattle.dev_face.specs.BlkCalls.{work_with, completed};
+ghost use Rattle.blk_dev.specs.MadePages.{MadeBy};
 
 use crate::flight::Flight;
 use crate::request::{HEADER, READ, SECTOR, WRITE, data_len, is_well_formed, status_of, used_len};
+use byte_pages::Pages;
 use dev_face::put_back;
 use guest_ram::Ram;
 use split_queue::{Chain, SplitQueue};
+use tb_base::NoMemory;
 use virtio_regs::Regs;
 
-/// Moves the data of a read or a write that is well formed, between the disk and the chain.
-fn move_data(flight: &Flight, len: u64, good: bool, content: &mut [u8], ram: &mut Ram)
+/// Moves so many sectors of the disk to the chain, one at a time.
+fn read_sectors(chain: &Chain, sector: u64, count: u64, content: &Pages, ram: &mut Ram)
+    requires ranges { RangesIn ram.old chain.now.writable }
+    requires room { 512 * count ≤ stream_len chain.now.writable }
+    requires small { sector + count < 2 ^ 32 }
+    requires inside { 512 * (sector + count) ≤ length content.now.bytes }
+    ensures ram { ram.new ≡ written ram.old chain.now.writable 0 (slice_range content.now.bytes (512 * sector) (512 * (sector + count))) }
+    ensures size { length ram.new ≡ length ram.old }
+{
+    let mut bytes = [0; 512];
+    'sectors: for moved in 0..count {
+        content.read_into((SECTOR * (sector + moved)) as usize, &mut bytes);
+        chain.write_at(ram, SECTOR * moved, &bytes);
+    }
+}
+
+/// Moves so many sectors from behind the header of the chain to the disk, one at a time.
+fn write_sectors(chain: &Chain, sector: u64, count: u64, content: &mut Pages, ram: &Ram)
+    requires ranges { RangesIn ram.now chain.now.readable }
+    requires room { 16 + 512 * count ≤ stream_len chain.now.readable }
+    requires small { sector + count < 2 ^ 32 }
+    requires inside { 512 * (sector + count) ≤ length content.old.bytes }
+    requires there { AreThere content.old (512 * sector) (512 * count) }
+    ensures bytes { content.new.bytes ≡
+        with_bytes content.old.bytes (512 * sector) (slice_range (stream ram.now chain.now.readable) 16 (16 + 512 * count)) }
+    ensures there { content.new.there ≡ content.old.there }
+    ensures size { length content.new.bytes ≡ length content.old.bytes }
+{
+    let mut bytes = [0; 512];
+    'sectors: for moved in 0..count {
+        chain.read_at(ram, HEADER + SECTOR * moved, &mut bytes);
+        content.write_from((SECTOR * (sector + moved)) as usize, &bytes);
+    }
+}
+
+/// Makes the pages that so many sectors stand on, and then moves the data behind the header of the chain to them.
+fn write_data(
+    chain: &Chain,
+    sector: u64,
+    count: u64,
+    content: &mut Pages,
+    ram: &Ram,
+) -> Result<(), NoMemory>
+    requires ranges { RangesIn ram.now chain.now.readable }
+    requires room { 16 + 512 * count ≤ stream_len chain.now.readable }
+    requires small { sector + count < 2 ^ 32 }
+    requires inside { 512 * (sector + count) ≤ length content.old.bytes }
+    ensures bytes { OnOk result (content.new.bytes ≡
+        with_bytes content.old.bytes (512 * sector) (slice_range (stream ram.now chain.now.readable) 16 (16 + 512 * count))) }
+    ensures size { length content.new.bytes ≡ length content.old.bytes }
+    ensures there { OnOk result (AreThere content.new (512 * sector) (512 * count)) }
+    ensures stay { (i : ℕ) → is_there content.old i ≡ true → is_there content.new i ≡ true }
+    ensures others { (i : ℕ) → is_there content.new i ≡ true → (is_there content.old i ≡ true) ⊎ IsTouched (512 * sector) (512 * count) i }
+    ensures count { length content.new.there ≡ length content.old.there }
+{
+    match content.reserve((SECTOR * sector) as usize, (SECTOR * count) as usize) {
+        Ok(()) => (),
+        Err(_) => return Err(NoMemory),
+    }
+    write_sectors(chain, sector, count, content, ram);
+    Ok(())
+}
+
+/// Moves the data of a read or a write that is well formed, between the disk and the chain. A read makes no page.
+fn move_data(
+    flight: &Flight,
+    len: u64,
+    good: bool,
+    content: &mut Pages,
+    ram: &mut Ram,
+) -> Result<(), NoMemory>
     requires ranges { ChainIn ram.old flight.now.chain }
     requires len { len ≡ data_len flight.now.kind flight.now.chain }
-    requires inside { good ≡ true → (flight.now.sector < 2 ^ 32) × (512 * flight.now.sector + len ≤ length content.old) }
-    ensures ram { ram.new ≡ ram_moved len good content.old ram.old flight.now }
-    ensures content { content.new ≡ content_moved len good content.old ram.old flight.now }
+    requires whole { good ≡ true → len % 512 ≡ 0 }
+    requires small { good ≡ true → flight.now.sector + len / 512 < 2 ^ 32 }
+    requires inside { good ≡ true → 512 * (flight.now.sector + len / 512) ≤ length content.old.bytes }
+    ensures ram { OnOk result (ram.new ≡ ram_moved len good content.old.bytes ram.old flight.now) }
+    ensures content { OnOk result (content.new.bytes ≡ content_moved len good content.old.bytes ram.old flight.now) }
     ensures size { length ram.new ≡ length ram.old }
-    ensures sectors { length content.new ≡ length content.old }
+    ensures sectors { length content.new.bytes ≡ length content.old.bytes }
+    ensures there { OnOk result (good ≡ true → flight.now.kind ≡ 1 → AreThere content.new (512 * flight.now.sector) len) }
+    ensures stay { (i : ℕ) → is_there content.old i ≡ true → is_there content.new i ≡ true }
+    ensures others { (i : ℕ) → is_there content.new i ≡ true →
+        (is_there content.old i ≡ true) ⊎ ((good ≡ true) × (flight.now.kind ≡ 1) × IsTouched (512 * flight.now.sector) len i) }
+    ensures count { length content.new.there ≡ length content.old.there }
 {
     if !good {
-        return;
+        return Ok(());
     }
-    let start = (SECTOR * flight.sector) as usize;
-    let end = start + len as usize;
     if flight.kind == READ {
-        flight.chain.write_at(ram, 0, &content[start..end]);
+        read_sectors(&flight.chain, flight.sector, len / SECTOR, content, ram);
     } else if flight.kind == WRITE {
-        flight.chain.read_at(ram, HEADER, &mut content[start..end]);
+        write_data(&flight.chain, flight.sector, len / SECTOR, content, ram)?;
     }
+    Ok(())
 }
 
 /// Puts the status of a request behind its data.
@@ -45,29 +125,33 @@ fn put_status(chain: &Chain, status: u8, ram: &mut Ram)
     chain.write_at(ram, last, &[status]);
 }
 
-/// Completes a request: its data moves, its status is put, and its chain is given back.
+/// Completes a request: its data moves, its status is put, and its chain is given back. Where there is no memory for the pages
+/// of a write it does not complete.
 #[tactic(auto, unfolding(dev_face::specs::BlkCalls::completed))]
 pub(crate) fn complete(
     sectors: u32,
     flight: &Flight,
     regs: &mut Regs,
     queue: &mut SplitQueue,
-    content: &mut [u8],
+    content: &mut Pages,
     ram: &mut Ram,
-)
+) -> Result<(), NoMemory>
     requires ranges { ChainIn ram.old flight.now.chain }
     requires rings { QueueFits (length ram.old) queue.old }
-    requires disk { length content.old ≡ 512 * sectors }
-    ensures work { work_with regs.new queue.new content.new ram.new ≡
-        completed sectors (work_with regs.old queue.old content.old ram.old) flight.now }
+    requires small { sectors ≤ 32768 }
+    requires disk { length content.old.bytes ≡ 512 * sectors }
+    ensures work { OnOk result (work_with regs.new queue.new content.new.bytes ram.new ≡
+        completed sectors (work_with regs.old queue.old content.old.bytes ram.old) flight.now) }
     ensures size { length ram.new ≡ length ram.old }
-    ensures sectors { length content.new ≡ length content.old }
+    ensures sectors { length content.new.bytes ≡ length content.old.bytes }
     ensures rings { (n : ℕ) → QueueFits n queue.old → QueueFits n queue.new }
+    ensures pages { OnOk result (MadeBy sectors (flight.now ∷ []) content.old content.new) }
 {
     let len = data_len(flight.kind, &flight.chain);
     let good = is_well_formed(sectors, flight.kind, flight.sector, len);
-    move_data(flight, len, good, content, ram);
+    move_data(flight, len, good, content, ram)?;
     put_status(&flight.chain, status_of(flight.kind, good), ram);
     let used = used_len(flight.kind, good, &flight.chain) as u32;
     put_back(flight.chain.head, used, regs, queue, ram);
+    Ok(())
 }

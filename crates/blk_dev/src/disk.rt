@@ -2,6 +2,7 @@
 ghost use Rattle.std.specs.Prelude.{◌≡◌, ◌*◌, ◌≤◌, length};
 
 use crate::active::Active;
+use byte_pages::Pages;
 use disk_model::DiskServer;
 use virtio_regs::Regs;
 
@@ -21,8 +22,8 @@ pub(crate) struct Disk {
     /// Its queue, where that is ready.
     pub(crate) active: Option<Active>,
     pub(crate) server: DiskServer,
-    /// The bytes of all sectors.
-    pub(crate) content: Vec<u8>,
-    ghost sized: { length content.items ≡ 512 * sectors },
+    /// The bytes of all sectors, by pages, each of which is made when it is first written.
+    pub(crate) content: Pages,
+    ghost sized: { length content.bytes ≡ 512 * sectors },
     ghost small: { sectors ≤ 32768 },
 }

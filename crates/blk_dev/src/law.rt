@@ -1,9 +1,11 @@
-//! When the requests in flight complete.
-ghost use Rattle.std.specs.Prelude.{◌≡◌, ℕ, List, filter, map, fold};
+//! When the requests in flight complete, and which pages they make.
+ghost use Rattle.std.specs.Prelude.{◌≡◌, ◌≢◌, ℕ, ◌≤◌, List, All, count_by, filter, map, fold};
 ghost use Rattle.tb_base.specs.declared.width.Width.{Width};
+ghost use Rattle.byte_pages.specs.Pages.{PageState, page_count};
 ghost use Rattle.disk_model.specs.declared.disk_params.DiskParams.{DiskParams};
-ghost use Rattle.dev_face.specs.BlkStates.{BlkState, opening_disk};
+ghost use Rattle.dev_face.specs.BlkStates.{FlightState, BlkState, opening_disk};
 ghost use Rattle.dev_face.specs.BlkCalls.{Work, served, completed, done_rec, blk_store, blk_begin, blk_end, blk_next};
+ghost use Rattle.blk_dev.specs.MadePages.{MadeBy, opening_there};
 ghost use Rattle.blk_dev.specs.Order.{IsOrdered, IsLeastFinish, in_flight, is_due, is_later};
 
 use disk_model::finish_ticks_never_fall;
@@ -30,4 +32,12 @@ pub fn due_requests_complete()
         (served now disk sectors w (in_flight s.active)).recs ≡ map (done_rec now disk sectors) (filter (is_due now) (in_flight s.active)) }
     ensures left { (now disk sectors : ℕ) (w : Work) (s : BlkState) → IsOrdered s →
         (served now disk sectors w (in_flight s.active)).left ≡ filter (is_later now) (in_flight s.active) }
+{}
+
+/// Of the pages of a disk that is set up as many are there as hold bytes that were given. Requests of which none is a write make
+/// no page and take none away.
+pub fn pages_are_made_by_writes()
+    ensures opening { (len given : ℕ) → given ≤ len → count_by (λ there. there) (opening_there len given) ≡ page_count given }
+    ensures reads { (sectors : ℕ) (fs : List FlightState) (old new : PageState) →
+        All (λ f. f.kind ≢ 1) fs → MadeBy sectors fs old new → new.there ≡ old.there }
 {}

@@ -14,4 +14,4 @@ mod serve;
 mod ticks;
 
 pub use blk::Blk;
-pub use law::{due_requests_complete, requests_finish_in_order};
+pub use law::{due_requests_complete, pages_are_made_by_writes, requests_finish_in_order};

@@ -6,10 +6,12 @@ ghost use Rattle.dev_face.specs.Queues.{is_refused, virtio_done};
 ghost use Rattle.dev_face.specs.BlkStates.{opening_disk};
 ghost use Rattle.dev_face.specs.BlkCalls.{blk_load, blk_store};
 ghost use Rattle.blk_dev.specs.DiskView.{disk_state};
+ghost use Rattle.blk_dev.specs.MadePages.{opening_there};
 
 use crate::active::Active;
 use crate::disk::Disk;
 use crate::request::SECTOR;
+use byte_pages::Pages;
 use dev_face::{CONFIGURATION, StoreDone, config_value, is_refused, opened};
 use disk_model::{DiskParams, DiskServer};
 use std::alloc::Global;
@@ -17,23 +19,21 @@ use std::collections::VecDeque;
 use tb_base::{NoMemory, Width};
 use virtio_regs::{Kind2, RegDone, Regs};
 
-/// So many bytes: these, and then zeros.
-#[tactic(auto, using(std::proofs::lemmas::List::take_all))]
-fn padded(alloc: Global, bytes: &[u8], len: usize) -> Result<Vec<u8>, NoMemory>
-    requires { length bytes.now ≤ len }
-    ensures { IfOk result (λ v. v.items ≡ bytes.now ++ replicate (len - length bytes.now) 0) }
+/// The content of a disk of so many bytes: these, and then zeros. Of its pages those with bytes that are given are made.
+fn opening_content(alloc: Global, given: &[u8], len: usize) -> Result<Pages, NoMemory>
+    requires { length given.now ≤ len }
+    ensures bytes { IfOk result (λ p. p.bytes ≡ given.now ++ replicate (len - length given.now) 0) }
+    ensures there { IfOk result (λ p. p.there ≡ opening_there len (length given.now)) }
 {
-    let Ok(mut all) = Vec::with_capacity(alloc, len) else {
+    let Ok(mut content) = Pages::new(alloc, len) else {
         return Err(NoMemory);
     };
-    match all.extend_from_slice(bytes) {
+    match content.reserve(0, given.len()) {
         Ok(()) => (),
         Err(_) => return Err(NoMemory),
     }
-    match all.resize(len, 0) {
-        Ok(()) => Ok(all),
-        Err(_) => Err(NoMemory),
-    }
+    content.write_from(0, given);
+    Ok(content)
 }
 
 impl Disk {
@@ -49,9 +49,10 @@ impl Disk {
         requires small { sectors ≤ 32768 }
         requires params { CostsInLimits params }
         requires fits { length content.now ≤ 512 * sectors }
-        ensures { IfOk result (λ d. disk_state d ≡ opening_disk sectors params content.now disk slot) }
+        ensures state { IfOk result (λ d. disk_state d ≡ opening_disk sectors params content.now disk slot) }
+        ensures pages { IfOk result (λ d. d.content.there ≡ opening_there (512 * sectors) (length content.now)) }
     {
-        let content = padded(alloc, content, SECTOR as usize * sectors as usize)?;
+        let content = opening_content(alloc, content, SECTOR as usize * sectors as usize)?;
         Ok(Disk {
             coming: 0,
             disk,

@@ -3,10 +3,12 @@ ghost use Rattle.std.specs.Prelude.{◌≡◌, ◌*◌, ◌<◌, ◌≤◌, ◌+
 ghost use Rattle.dev_face.specs.States.{StaysInFront};
 ghost use Rattle.dev_face.specs.BlkStates.{FlightsFit, RingsUsed};
 ghost use Rattle.dev_face.specs.BlkCalls.{work_with, first_finish, done_rec, served};
+ghost use Rattle.blk_dev.specs.MadePages.{MadeBy, due_in};
 
 use crate::complete::complete;
 use crate::flight::Flight;
 use crate::request::{data_len, is_well_formed, status_of};
+use byte_pages::Pages;
 use guest_ram::Ram;
 use split_queue::SplitQueue;
 use std::collections::VecDeque;
@@ -46,7 +48,8 @@ fn done_rec(now: u64, disk: u32, sectors: u32, flight: &Flight) -> Rec
     }
 }
 
-/// Completes the requests that are due, in the order of their admission.
+/// Completes the requests that are due, in the order of their admission. The pages that a write goes to are made before its
+/// data moves.
 pub(crate) fn serve(
     now: u64,
     disk: u32,
@@ -54,26 +57,28 @@ pub(crate) fn serve(
     flying: &mut VecDeque<Flight>,
     regs: &mut Regs,
     queue: &mut SplitQueue,
-    content: &mut [u8],
+    content: &mut Pages,
     ram: &mut Ram,
     log: &mut Log,
 ) -> Result<(), NoMemory>
     requires ranges { FlightsFit (length ram.old) flying.old.items }
     requires rings { RingsUsed (length ram.old) queue.old flying.old.items }
-    requires disk { length content.old ≡ 512 * sectors }
-    ensures work { OnOk result (work_with regs.new queue.new content.new ram.new ≡
-        (served now disk sectors (work_with regs.old queue.old content.old ram.old) flying.old.items).work) }
-    ensures left { OnOk result (flying.new.items ≡ (served now disk sectors (work_with regs.old queue.old content.old ram.old) flying.old.items).left) }
+    requires small { sectors ≤ 32768 }
+    requires disk { length content.old.bytes ≡ 512 * sectors }
+    ensures work { OnOk result (work_with regs.new queue.new content.new.bytes ram.new ≡
+        (served now disk sectors (work_with regs.old queue.old content.old.bytes ram.old) flying.old.items).work) }
+    ensures left { OnOk result (flying.new.items ≡ (served now disk sectors (work_with regs.old queue.old content.old.bytes ram.old) flying.old.items).left) }
     ensures recs { OnOk result (log.new.items ≡
-        log.old.items ++ (served now disk sectors (work_with regs.old queue.old content.old ram.old) flying.old.items).recs) }
+        log.old.items ++ (served now disk sectors (work_with regs.old queue.old content.old.bytes ram.old) flying.old.items).recs) }
     ensures ranges { OnOk result (FlightsFit (length ram.new) flying.new.items) }
     ensures rings { OnOk result (RingsUsed (length ram.new) queue.new flying.new.items) }
     ensures size { length ram.new ≡ length ram.old }
-    ensures sectors { length content.new ≡ length content.old }
+    ensures sectors { length content.new.bytes ≡ length content.old.bytes }
     ensures front { StaysInFront log.old.items log.new.items }
+    ensures pages { OnOk result (MadeBy sectors (due_in now flying.old.items) content.old content.new) }
 {
     'due: while let Some(flight) = take_due(now, flying) {
-        complete(sectors, &flight, regs, queue, content, ram);
+        complete(sectors, &flight, regs, queue, content, ram)?;
         log.push(done_rec(now, disk, sectors, &flight))?;
     }
     Ok(())

@@ -4,6 +4,8 @@ ghost use Rattle.dev_face.specs.States.{StaysInFront};
 ghost use Rattle.dev_face.specs.BlkStates.{BlkFits};
 ghost use Rattle.dev_face.specs.BlkCalls.{blk_begin, blk_end, blk_next, blk_end_idle};
 ghost use Rattle.blk_dev.specs.DiskView.{disk_state};
+ghost use Rattle.blk_dev.specs.MadePages.{MadeBy, due_in};
+ghost use Rattle.blk_dev.specs.Order.{in_flight};
 
 use crate::admit::take_all;
 use crate::disk::Disk;
@@ -13,7 +15,7 @@ use tb_base::NoMemory;
 use trace_rec::Log;
 
 impl Disk {
-    /// Begins a tick: the requests that are due complete.
+    /// Begins a tick: the requests that are due complete. Pages of the content are made for those that write.
     pub(crate) fn begin(&mut self, now: u64, ram: &mut Ram, log: &mut Log) -> Result<(), NoMemory>
         requires early { now ≤ 2 ^ 40 }
         requires fits { BlkFits (length ram.old) (disk_state self.old).active }
@@ -24,6 +26,7 @@ impl Disk {
         ensures coming { (disk_state self.new).coming ≡ now + 1 }
         ensures size { length ram.new ≡ length ram.old }
         ensures front { StaysInFront log.old.items log.new.items }
+        ensures pages { OnOk result (MadeBy (disk_state self.old).sectors (due_in now (in_flight (disk_state self.old).active)) self.old.content self.new.content) }
     {
         self.coming = now + 1;
         match &mut self.active {

@@ -1,5 +1,5 @@
 //! Requests of a disk, from the driver's stores to the records.
-ghost use Rattle.std.specs.Prelude.{◌≡◌, ◌+◌, ◌<◌, ◌^◌, length, OnOk, IfOk};
+ghost use Rattle.std.specs.Prelude.{◌≡◌, ◌+◌, ◌*◌, ◌<◌, ◌≤◌, ◌^◌, length, OnOk, IfOk};
 ghost use Rattle.dev_face.specs.States.{IsComing};
 ghost use Rattle.blk_dev.specs.BlkView.{blk_state};
 
@@ -92,28 +92,53 @@ fn bring_up(disk: &mut Blk, now: u64, ram: &Ram, used: u32)
     }
 }
 
-/// A disk of one sector, whose first bytes are 7, 8 and 9, that took its request at the end of tick 10.
-fn taken(alloc: Global, used: u32, ram: &mut Ram, log: &mut Log) -> Result<Blk, NoMemory>
-    ensures { IfOk result (λ disk. IsComing 11 (length ram.new) (blk_state disk)) }
+/// A disk of so many sectors that is set up with this content, before tick 10. Its requests take five ticks.
+fn opened(alloc: Global, sectors: u32, content: &[u8], ram: &Ram) -> Result<Blk, NoMemory>
+    requires sectors { (1 ≤ sectors) × (sectors ≤ 32768) }
+    requires fits { length content.now ≤ 512 * sectors }
+    ensures { IfOk result (λ disk. IsComing 10 (length ram.now) (blk_state disk)) }
 {
     let mut disk = Blk::new(alloc);
     disk.set_up(&DevConfig::Blk {
-        sectors: 1,
+        sectors,
         params: DiskParams {
             base: 5,
             seek_num: 0,
             seek_den: 1,
             per_sector: 0,
         },
-        content: Bytes::from_slice(alloc, &[7, 8, 9])?,
+        content: Bytes::from_slice(alloc, content)?,
         disk: 0,
         slot: 0,
     })?;
     disk.skip_to(10);
+    Ok(disk)
+}
+
+/// The driver brings a disk up in tick 10, at whose end it takes its request.
+fn take(
+    alloc: Global,
+    disk: &mut Blk,
+    used: u32,
+    ram: &mut Ram,
+    log: &mut Log,
+) -> Result<(), NoMemory>
+    requires { IsComing 10 (length ram.old) (blk_state disk.old) }
+    ensures { OnOk result (IsComing 11 (length ram.new) (blk_state disk.new)) }
+{
     let mut frames = ItemList::new(alloc);
     disk.begin_tick(10, ram, &mut frames, log)?;
-    bring_up(&mut disk, 11, ram, used);
+    bring_up(disk, 11, ram, used);
     disk.end_tick(10, ram, &mut frames, log)?;
+    Ok(())
+}
+
+/// A disk of one sector, whose first bytes are 7, 8 and 9, that took its request at the end of tick 10.
+fn taken(alloc: Global, used: u32, ram: &mut Ram, log: &mut Log) -> Result<Blk, NoMemory>
+    ensures { IfOk result (λ disk. IsComing 11 (length ram.new) (blk_state disk)) }
+{
+    let mut disk = opened(alloc, 1, &[7, 8, 9], ram)?;
+    take(alloc, &mut disk, used, ram, log)?;
     Ok(disk)
 }
 
@@ -254,6 +279,34 @@ fn what_is_written_is_read(rt: HostRuntime) -> Result<(), Fail> {
     for (addr, want) in [(DATA, 0x0403_0201), (DATA + 4, 5), (USED, 0x0002_0000)] {
         assert!(rt; ram.load(addr, Width::Word) == Ok(want), "at {addr:x}");
     }
+    Ok(())
+}
+
+/// A page of the content is made when a write first goes to it, and none is made for a read. Those with bytes of the content that
+/// a disk is set up with are there from then on.
+#[test]
+fn pages_are_made_when_written(rt: HostRuntime) -> Result<(), Fail> {
+    let alloc = rt.alloc();
+    for (kind, data, room, made) in [(0, 0, 513, 0), (1, 512, 1, 1)] {
+        let mut log = Log::new(alloc);
+        let mut ram = Ram::new(alloc, 8192)?;
+        let asked = Asked {
+            kind,
+            sector: 8,
+            data,
+            room,
+        };
+        ask(&mut ram, asked, 1);
+        let mut disk = opened(alloc, 32_768, &[], &ram)?;
+        assert_eq!(rt; disk.made(), 0);
+        take(alloc, &mut disk, USED, &mut ram, &mut log)?;
+        assert_eq!(rt; disk.made(), 0);
+        wait(alloc, &mut disk, 11, &mut ram, &mut log)?;
+        assert_eq!(rt; told(&log), Some((15, kind, 8, 512, 0)));
+        assert_eq!(rt; disk.made(), made);
+    }
+    let ram = Ram::new(alloc, 8192)?;
+    assert_eq!(rt; opened(alloc, 32_768, &[7, 8, 9], &ram)?.made(), 1);
     Ok(())
 }
 
