@@ -50,28 +50,28 @@ pairs_push g (f ∷ fs) h a =
     (All-push (NotBefore f) fs g (pairs_head f fs h) (All-head (λ (x : FlightState). x.finish ≤ g.finish) f fs a))
     (pairs_push g fs (pairs_tail f fs h) (All-tail (λ (x : FlightState). x.finish ≤ g.finish) f fs a))
 
-pub none_flies : (s : Server) → s.place.free ≤ 2 ^ 63 → FinishInOrder s []
-none_flies s le = record { order = pairs_none; free = All-nil (λ (f : FlightState). f.finish ≤ s.place.free); range = le }
+pub none_flies : (s : Server) → s.position.free ≤ 2 ^ 63 → FinishInOrder s []
+none_flies s le = record { order = pairs_none; free = All-nil (λ (f : FlightState). f.finish ≤ s.position.free); range = le }
 
 -- one more request finishes when the server is free after it
-one_more : (s t : Server) (fs : List FlightState) (f : FlightState) → FinishInOrder s fs → s.place.free ≤ t.place.free → t.place.free ≤ 2 ^ 63 → f.finish ≡ t.place.free → FinishInOrder t (fs ++ f ∷ [])
+one_more : (s t : Server) (fs : List FlightState) (f : FlightState) → FinishInOrder s fs → s.position.free ≤ t.position.free → t.position.free ≤ 2 ^ 63 → f.finish ≡ t.position.free → FinishInOrder t (fs ++ f ∷ [])
 one_more s t fs f h le range is =
-    let before : All (λ (x : FlightState). x.finish ≤ t.place.free) fs = All-weaker (λ (x : FlightState). x.finish ≤ s.place.free) (λ (x : FlightState). x.finish ≤ t.place.free) (λ x b. omega (arith, b, le)) fs h.free in
-    let under : All (λ (x : FlightState). x.finish ≤ f.finish) fs = All-weaker (λ (x : FlightState). x.finish ≤ t.place.free) (λ (x : FlightState). x.finish ≤ f.finish) (λ x b. omega (arith, b, is)) fs before in
+    let before : All (λ (x : FlightState). x.finish ≤ t.position.free) fs = All-weaker (λ (x : FlightState). x.finish ≤ s.position.free) (λ (x : FlightState). x.finish ≤ t.position.free) (λ x b. omega (arith, b, le)) fs h.free in
+    let under : All (λ (x : FlightState). x.finish ≤ f.finish) fs = All-weaker (λ (x : FlightState). x.finish ≤ t.position.free) (λ (x : FlightState). x.finish ≤ f.finish) (λ x b. omega (arith, b, is)) fs before in
     record {
       order = pairs_push f fs h.order under;
-      free = All-push (λ (x : FlightState). x.finish ≤ t.place.free) fs f before (omega (arith, is));
+      free = All-push (λ (x : FlightState). x.finish ≤ t.position.free) fs f before (omega (arith, is));
       range = range;
     }
 
 pub rest_flies : (s : Server) (f : FlightState) (fs : List FlightState) → FinishInOrder s (f ∷ fs) → FinishInOrder s fs
-rest_flies s f fs h = record { order = pairs_tail f fs h.order; free = All-tail (λ (x : FlightState). x.finish ≤ s.place.free) f fs h.free; range = h.range }
+rest_flies s f fs h = record { order = pairs_tail f fs h.order; free = All-tail (λ (x : FlightState). x.finish ≤ s.position.free) f fs h.free; range = h.range }
 
 pub opening_ordered : (sectors disk slot : ℕ) (p : DiskParams) (bytes : List ℕ) → IsOrdered (opening_disk sectors p bytes disk slot)
 opening_ordered sectors disk slot p bytes = none_flies (opening_disk sectors p bytes disk slot).server (omega arith)
 
 -- stores
-fresh : (s : Server) (o : Option QueueSet) → s.place.free ≤ 2 ^ 63 → FinishInOrder s (in_flight (activated o))
+fresh : (s : Server) (o : Option QueueSet) → s.position.free ≤ 2 ^ 63 → FinishInOrder s (in_flight (activated o))
 fresh s None le = none_flies s le
 fresh s (Some q) le = none_flies s le
 
@@ -125,23 +125,23 @@ next_least s h = least_in s.server s.active h
 
 -- what the server says of one more request
 abbrev pub Rises : Type 0
-Rises = (s : Server) (n a b : ℕ) → s.place.free ≤ 2 ^ 63 → s.place.free ≤ (admitted s n a b).place.free
+Rises = (s : Server) (n a b : ℕ) → s.position.free ≤ 2 ^ 63 → s.position.free ≤ (admitted s n a b).position.free
 
 abbrev pub Bounded : Type 0
-Bounded = (s : Server) (n a b : ℕ) → (admitted s n a b).place.free ≤ 2 ^ 63
+Bounded = (s : Server) (n a b : ℕ) → (admitted s n a b).position.free ≤ 2 ^ 63
 
 -- ticks end
 abbrev Good : Intake → Type 0
 Good x = FinishInOrder x.server x.flying
 
 module _ (rises : Rises) (bounded : Bounded) where
-  as_rises : (s : Server) (now sector len : ℕ) (good : Bool) → s.place.free ≤ 2 ^ 63 → s.place.free ≤ (admitted_as s now sector len good).place.free
+  as_rises : (s : Server) (now sector len : ℕ) (good : Bool) → s.position.free ≤ 2 ^ 63 → s.position.free ≤ (admitted_as s now sector len good).position.free
   as_rises s now sector len true le = rises s now sector (len / 512) le
-  as_rises s now sector len false le = rises s now s.place.head 0 le
+  as_rises s now sector len false le = rises s now s.position.head 0 le
 
-  as_bounded : (s : Server) (now sector len : ℕ) (good : Bool) → (admitted_as s now sector len good).place.free ≤ 2 ^ 63
+  as_bounded : (s : Server) (now sector len : ℕ) (good : Bool) → (admitted_as s now sector len good).position.free ≤ 2 ^ 63
   as_bounded s now sector len true = bounded s now sector (len / 512)
-  as_bounded s now sector len false = bounded s now s.place.head 0
+  as_bounded s now sector len false = bounded s now s.position.head 0
 
   takes : (x : Intake) (now sector len : ℕ) (good : Bool) (c : ChainOf) (kind : ℕ) → Good x →
       FinishInOrder (admitted_as x.server now sector len good) (x.flying ++ flight_of c kind sector (admitted_as x.server now sector len good) ∷ [])

@@ -10,8 +10,8 @@ in_flight (Some a) = a.flying
 -- finish ticks never fall along the requests, and none is later than the tick in which the server is free
 pub record FinishInOrder (server : Server) (fs : List FlightState) : Type 0 where
   pub order : AllPairs (λ (f g : FlightState). f.finish ≤ g.finish) fs
-  pub free : All (λ (f : FlightState). f.finish ≤ server.place.free) fs
-  pub range : server.place.free ≤ 2 ^ 63
+  pub free : All (λ (f : FlightState). f.finish ≤ server.position.free) fs
+  pub range : server.position.free ≤ 2 ^ 63
 
 abbrev pub IsOrdered : BlkState → Type 0
 IsOrdered s = FinishInOrder s.server (in_flight s.active)

@@ -43,7 +43,7 @@ fn admit(server: &mut DiskServer, now: u64, sector: u64, len: u64, good: bool) -
     requires early { now ≤ 2 ^ 40 }
     requires inside { good ≡ true → sector + len / 512 ≤ 32768 }
     ensures server { server.new ≡ admitted_as server.old now sector len good }
-    ensures finish { result ≡ server.new.place.free }
+    ensures finish { result ≡ server.new.position.free }
 {
     if good {
         server.admit(now, sector, len / SECTOR)

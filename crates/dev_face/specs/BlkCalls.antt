@@ -134,11 +134,11 @@ breaks now slot x why = record { intake = record x { regs = broken x.regs; flyin
 
 -- a request is admitted to the server: a well formed one with its sector and count, every other at the head with no sector
 abbrev pub admitted_as : Server → ℕ → ℕ → ℕ → Bool → Server
-admitted_as server now sector len good = if good then admitted server now sector (len / 512) else admitted server now server.place.head 0
+admitted_as server now sector len good = if good then admitted server now sector (len / 512) else admitted server now server.position.head 0
 
 -- the request that was admitted last
 abbrev pub flight_of : ChainOf → ℕ → ℕ → Server → FlightState
-flight_of c kind sector server = record { chain = c; kind = kind; sector = sector; finish = server.place.free }
+flight_of c kind sector server = record { chain = c; kind = kind; sector = sector; finish = server.position.free }
 
 abbrev pub takes_flight : Intake → ChainOf → ℕ → ℕ → Server → Intake
 takes_flight x c kind sector server = record x { server = server; flying = x.flying ++ flight_of c kind sector server ∷ [] }

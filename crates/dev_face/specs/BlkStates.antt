@@ -52,7 +52,7 @@ opening_disk sectors params content disk slot = record {
   regs = opening_regs virtio.Blk;
   notified = false;
   active = None;
-  server = record { costs = params; place = record { head = 0; free = 0 } };
+  server = record { costs = params; position = record { head = 0; free = 0 } };
   content = content ++ replicate (512 * sectors - length content) 0;
 }
 

@@ -27,11 +27,11 @@ free_rises p h i (suc j) l = elim (cases_eq i (suc j)) [
 pub finish_order : (p : DiskParams) (h : List Request) (i j : ℕ) → i ≤ j → finish p h i ≤ finish p h j
 finish_order p h i j l = free_rises p h (suc i) (suc j) (omega arith)
 
-pub admitted_later : (s : Server) (n a b : ℕ) → s.place.free ≤ 2 ^ 63 → s.place.free ≤ (admitted s n a b).place.free
+pub admitted_later : (s : Server) (n a b : ℕ) → s.position.free ≤ 2 ^ 63 → s.position.free ≤ (admitted s n a b).position.free
 unfolding admitted
 admitted_later s n a b l =
-    max_rises n s.place.free (s.costs.base + distance a s.place.head * s.costs.seek_num / s.costs.seek_den + s.costs.per_sector * b) l
+    max_rises n s.position.free (s.costs.base + distance a s.position.head * s.costs.seek_num / s.costs.seek_den + s.costs.per_sector * b) l
 
-pub admitted_range : (s : Server) (n a b : ℕ) → (admitted s n a b).place.free ≤ 2 ^ 63
+pub admitted_range : (s : Server) (n a b : ℕ) → (admitted s n a b).position.free ≤ 2 ^ 63
 unfolding admitted
 admitted_range s n a b = omega arith

@@ -2,7 +2,7 @@
 use Rattle.std.proofs.Common.{◌≡◌, ℕ, zero, suc, ◌+◌, ◌*◌, ◌/◌, ◌≤◌, ◌<◌, ◌^◌, min, max, List, [], ◌∷◌, ◌++◌, length, refl, sym, ap, ◌∙◌, arith}
 use Rattle.std.proofs.lemmas.List.{get_or_append_left, get_or_push, length_push}
 use Rattle.disk_model.specs.declared.disk_params.DiskParams.{DiskParams}
-use Rattle.disk_model.specs.Service.{Request, Place, request, nth, head_before, free_before, service, finish, disk_at, distance}
+use Rattle.disk_model.specs.Service.{Request, Position, request, nth, head_before, free_before, service, finish, disk_at, distance}
 use Rattle.disk_model.specs.Server.{Server, StandsFor, admitted}
 
 pub nth_before : (h : List Request) (r : Request) (i : ℕ) → i < length h → nth (h ++ r ∷ []) i ≡ nth h i
@@ -26,11 +26,11 @@ free_push p h r (suc i) l =
     let f = free_push p h r i (omega arith) in
     cc
 
--- what the last request of a list costs, by the place of the list before it
-abbrev pub served : DiskParams → Place → ℕ → ℕ → ℕ → ℕ
+-- what the last request of a list costs, by where the list before it leaves the disk
+abbrev pub served : DiskParams → Position → ℕ → ℕ → ℕ → ℕ
 served p at n s c = min (max n at.free + (p.base + distance s at.head * p.seek_num / p.seek_den + p.per_sector * c)) (2 ^ 63)
 
-pub finish_last : (p : DiskParams) (h : List Request) (at : Place) (n s c : ℕ) → at ≡ disk_at p h → finish p (h ++ request n s c ∷ []) (length h) ≡ served p at n s c
+pub finish_last : (p : DiskParams) (h : List Request) (at : Position) (n s c : ℕ) → at ≡ disk_at p h → finish p (h ++ request n s c ∷ []) (length h) ≡ served p at n s c
 finish_last p h at n s c e =
     let r : Request = request n s c in
     let l = get_or_push h r (request 0 0 0) (length h) refl in
@@ -38,8 +38,8 @@ finish_last p h at n s c e =
     let g = head_push h r (length h) (omega arith) in
     cc
 
-pub place_last : (p : DiskParams) (h : List Request) (at : Place) (n s c : ℕ) → at ≡ disk_at p h → disk_at p (h ++ request n s c ∷ []) ≡ record { head = s + c; free = served p at n s c }
-place_last p h at n s c e =
+pub position_last : (p : DiskParams) (h : List Request) (at : Position) (n s c : ℕ) → at ≡ disk_at p h → disk_at p (h ++ request n s c ∷ []) ≡ record { head = s + c; free = served p at n s c }
+position_last p h at n s c e =
     let r : Request = request n s c in
     let k : length (h ++ r ∷ []) ≡ suc (length h) = omega (arith, length_push h r) in
     let l = get_or_push h r (request 0 0 0) (length h) refl in
@@ -49,11 +49,11 @@ place_last p h at n s c e =
 
 pub stands_admitted : (s : Server) (h : List Request) (n a b : ℕ) → StandsFor s h → StandsFor (admitted s n a b) (h ++ request n a b ∷ [])
 unfolding admitted
-stands_admitted s h n a b e = sym (place_last s.costs h s.place n a b e)
+stands_admitted s h n a b e = sym (position_last s.costs h s.position n a b e)
 
-pub answer_admitted : (s : Server) (h : List Request) (n a b : ℕ) → StandsFor s h → (admitted s n a b).place.free ≡ finish s.costs (h ++ request n a b ∷ []) (length h)
+pub answer_admitted : (s : Server) (h : List Request) (n a b : ℕ) → StandsFor s h → (admitted s n a b).position.free ≡ finish s.costs (h ++ request n a b ∷ []) (length h)
 unfolding admitted
-answer_admitted s h n a b e = sym (finish_last s.costs h s.place n a b e)
+answer_admitted s h n a b e = sym (finish_last s.costs h s.position n a b e)
 
 pub costs_admitted : (s : Server) (n a b : ℕ) → (admitted s n a b).costs ≡ s.costs
 unfolding admitted

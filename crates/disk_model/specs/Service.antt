@@ -37,11 +37,11 @@ free_before p h (suc i) = min (max (nth h i).tick (free_before p h i) + service 
 abbrev pub finish : DiskParams → List Request → ℕ → ℕ
 finish p h i = free_before p h (suc i)
 
--- head and free time of a disk
-pub record Place : Type 0 where
+-- where the head of a disk is, and when the disk is free
+pub record Position : Type 0 where
   pub head : ℕ
   pub free : ℕ
 
 -- head and free time after the whole list
-abbrev pub disk_at : DiskParams → List Request → Place
+abbrev pub disk_at : DiskParams → List Request → Position
 disk_at p h = record { head = head_before h (length h); free = free_before p h (length h) }

@@ -22,7 +22,7 @@ impl Model for DiskServer {
 
     ghost Value = { Server };
 
-    ghost view = { λ s. record { costs = s.params; place = record { head = s.head; free = s.free } } };
+    ghost view = { λ s. record { costs = s.params; position = record { head = s.head; free = s.free } } };
 
     ghost invariant = { λ s. CostsInLimits s.params × (s.head ≤ 32768) × (s.free ≤ 2 ^ 63) };
 }
@@ -54,7 +54,7 @@ impl DiskServer {
         requires inside { sector + count ≤ 32768 }
         requires early { now ≤ 2 ^ 40 }
         ensures after { self.new ≡ admitted self.old now sector count }
-        ensures later { self.old.place.free ≤ self.new.place.free }
+        ensures later { self.old.position.free ≤ self.new.position.free }
     {
         let way = distance(sector, self.head);
         let service = self.params.base
@@ -74,8 +74,8 @@ impl DiskServer {
         ensures answer { (h : List Request) → StandsFor self.old h → result ≡ finish self.old.costs (h ++ request now sector count ∷ []) (length h) }
         ensures costs { self.new.costs ≡ self.old.costs }
         ensures after { self.new ≡ admitted self.old now sector count }
-        ensures free { result ≡ self.new.place.free }
-        ensures later { self.old.place.free ≤ result }
+        ensures free { result ≡ self.new.position.free }
+        ensures later { self.old.position.free ≤ result }
         ensures range { result ≤ 2 ^ 63 }
     {
         self.serve(now, sector, count);
@@ -84,7 +84,7 @@ impl DiskServer {
 
     /// The sector after the last one that was served.
     pub fn head(&self) -> u64
-        ensures is { result ≡ self.now.place.head }
+        ensures is { result ≡ self.now.position.head }
         ensures range { result ≤ 32768 }
     {
         self.head
@@ -92,7 +92,7 @@ impl DiskServer {
 
     /// The tick when all requests are finished.
     pub fn free_at(&self) -> u64
-        ensures is { result ≡ self.now.place.free }
+        ensures is { result ≡ self.now.position.free }
         ensures range { result ≤ 2 ^ 63 }
     {
         self.free

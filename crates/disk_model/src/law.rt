@@ -9,6 +9,6 @@ ghost use Rattle.disk_model.specs.Server.{Server, admitted};
 pub fn finish_ticks_never_fall()
     ensures order { (p : DiskParams) (h : List Request) (i j : ℕ) → i ≤ j → finish p h i ≤ finish p h j }
     // the same of a server, whose free time is the finish tick of its last request
-    ensures later { (s : Server) (n a b : ℕ) → s.place.free ≤ 2 ^ 63 → s.place.free ≤ (admitted s n a b).place.free }
-    ensures range { (s : Server) (n a b : ℕ) → (admitted s n a b).place.free ≤ 2 ^ 63 }
+    ensures later { (s : Server) (n a b : ℕ) → s.position.free ≤ 2 ^ 63 → s.position.free ≤ (admitted s n a b).position.free }
+    ensures range { (s : Server) (n a b : ℕ) → (admitted s n a b).position.free ≤ 2 ^ 63 }
 {}

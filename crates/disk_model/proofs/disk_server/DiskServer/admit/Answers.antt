@@ -10,7 +10,7 @@ returns-clause-stands c = λ h e.
 
 pub returns-clause-answer : goal.returns-clause-answer
 returns-clause-answer c = λ h e.
-    ap (λ (s : Server). s.place.free) c.self.view_is ∙ (ap (λ (s : Server). s.place.free) c.serve.ensures.after ∙ answer_admitted c.args.self.now h c.args.now c.args.sector c.args.count e)
+    ap (λ (s : Server). s.position.free) c.self.view_is ∙ (ap (λ (s : Server). s.position.free) c.serve.ensures.after ∙ answer_admitted c.args.self.now h c.args.now c.args.sector c.args.count e)
 
 pub returns-clause-costs : goal.returns-clause-costs
 returns-clause-costs c = ap (λ (s : Server). s.costs) c.serve.ensures.after ∙ costs_admitted c.args.self.now c.args.now c.args.sector c.args.count
