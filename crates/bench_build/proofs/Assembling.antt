@@ -1,4 +1,4 @@
--- The machines of an experiment stand at its opening, and its bench has its plan.
+-- The machines of an experiment stand at its opening, and its bench has its setup of the host.
 use Rattle.std.proofs.Common.{◌≡◌, ℕ, ◌<◌, List, length, map, Option, Some, sym, ap, ◌∙◌, arith}
 use Rattle.std.specs.Prelude.{slice_get}
 use Rattle.std.specs.List.{flat_map}
@@ -13,14 +13,14 @@ use Rattle.link_pipe.specs.PipeStates.{new_pipe}
 use Rattle.link_pipe.specs.declared.pipe_params.PipeParams.{PipeParams}
 use Rattle.lookahead_core.specs.Opening.{IsOpening}
 use Rattle.lookahead_core.specs.declared.wire.Wire.{Wire}
-use Rattle.slot_sched.specs.BenchWords.{plan_from}
-use Rattle.slot_sched.specs.Schedule.{Plan}
+use Rattle.slot_sched.specs.BenchWords.{host_setup_from}
+use Rattle.slot_sched.specs.Schedule.{HostSetup}
 use Rattle.guest_machine.specs.Tick.{MachineState}
 use Rattle.bench_build.specs.declared.loaded.Loaded.{Loaded}
 use Rattle.bench_build.specs.Building.{AreLoaded}
 use Rattle.bench_build.specs.Inputs.{Inputs}
 use Rattle.bench_build.specs.Openings.{openings}
-use Rattle.bench_build.specs.Setups.{setup, plan, machine_of, disks_and_nics, pipes_of, wires_of, capacity_of}
+use Rattle.bench_build.specs.Setups.{setup, host_setup, machine_of, disks_and_nics, pipes_of, wires_of, capacity_of}
 use Rattle.bench_build.specs.Takings.{with_base}
 use Rattle.bench_build.proofs.LinkWires.{pipes_count}
 use Rattle.bench_build.proofs.Loads.{rate_at, rate_is}
@@ -75,11 +75,11 @@ opening_is state ms own e contents i ls wires made same disks loaded many all li
       wires_are = ap (λ (x : Experiment). flat_map wires_of x.links.items) (sym same) ∙ sym links;
     }
 
--- the plan of a bench of these homes and capacities is that of the experiment on these slots
-pub plan_is : (p : Plan) (own e : Experiment) (homes slots given : List ℕ) (n : ℕ) → p ≡ plan_from homes given own.factor n → own ≡ e → homes ≡ slots
-    → given ≡ map capacity_of own.slots.items → p ≡ plan e slots n
-plan_is p own e homes slots given n made same at capacities =
+-- the setup of the host of a bench of these homes and capacities is that of the experiment on these slots
+pub host_setup_is : (p : HostSetup) (own e : Experiment) (homes slots given : List ℕ) (n : ℕ) → p ≡ host_setup_from homes given own.factor n → own ≡ e → homes ≡ slots
+    → given ≡ map capacity_of own.slots.items → p ≡ host_setup e slots n
+host_setup_is p own e homes slots given n made same at capacities =
     made
-    ∙ ap (λ (hs : List ℕ). plan_from hs given own.factor n) at
-    ∙ ap (λ (cs : List ℕ). plan_from slots cs own.factor n) capacities
-    ∙ ap (λ (x : Experiment). plan x slots n) same
+    ∙ ap (λ (hs : List ℕ). host_setup_from hs given own.factor n) at
+    ∙ ap (λ (cs : List ℕ). host_setup_from slots cs own.factor n) capacities
+    ∙ ap (λ (x : Experiment). host_setup x slots n) same

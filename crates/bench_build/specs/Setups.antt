@@ -19,7 +19,7 @@ use Rattle.lookahead_core.specs.declared.wire.Wire.{Wire}
 use Rattle.guest_machine.specs.Tick.{MachineState, machine_motion}
 use Rattle.guest_machine.specs.Opening.{opening}
 use Rattle.slot_sched.specs.Legal.{Rules}
-use Rattle.slot_sched.specs.Schedule.{Plan, rules}
+use Rattle.slot_sched.specs.Schedule.{HostSetup, rules}
 use Rattle.bench_build.specs.Images.{image}
 use Rattle.bench_build.specs.Inputs.{Inputs}
 use Rattle.bench_build.specs.declared.image_fault.ImageFault.{ImageFault}
@@ -98,9 +98,9 @@ setup e i = record {
 abbrev pub capacity_of : SlotSpec → ℕ
 capacity_of s = s.capacity
 
-abbrev pub plan : Experiment → List ℕ → ℕ → Plan
-plan e slots host_ticks = record { homes = slots; capacities = map capacity_of e.slots.items; factor = e.factor; host_ticks = host_ticks }
+abbrev pub host_setup : Experiment → List ℕ → ℕ → HostSetup
+host_setup e slots host_ticks = record { homes = slots; capacities = map capacity_of e.slots.items; factor = e.factor; host_ticks = host_ticks }
 
 -- what the journal of a run is judged by
 abbrev pub run_rules : Experiment → List ℕ → Inputs → ℕ → Rules
-run_rules e slots i host_ticks = rules machine_motion (setup e i) (plan e slots host_ticks)
+run_rules e slots i host_ticks = rules machine_motion (setup e i) (host_setup e slots host_ticks)

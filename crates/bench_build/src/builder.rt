@@ -8,10 +8,10 @@ ghost use Rattle.exp_file.specs.declared.experiment.Experiment.{Experiment};
 ghost use Rattle.exp_file.specs.declared.guest_spec.GuestSpec.{GuestSpec};
 ghost use Rattle.host_plan.specs.Fits.{IsPlacement, Fits};
 ghost use Rattle.slot_sched.specs.Legal.{start};
-ghost use Rattle.slot_sched.specs.BenchWords.{BenchStands, IsAtTick, plan_of, ticks_made, bench_failed, members_of};
+ghost use Rattle.slot_sched.specs.BenchWords.{BenchStands, IsAtTick, host_setup_of, ticks_made, bench_failed, members_of};
 ghost use Rattle.bench_build.specs.Answers.{Fills, ImageAnswers, DiskAnswers};
 ghost use Rattle.bench_build.specs.Inputs.{Inputs, no_inputs, with_image, with_disk, content_of};
-ghost use Rattle.bench_build.specs.Setups.{setup, plan};
+ghost use Rattle.bench_build.specs.Setups.{setup, host_setup};
 ghost use Rattle.bench_build.specs.Stocks.{IsStock, counts, items_of, Suffices, IsUnbuilt};
 
 use crate::build_fault::BuildFault;
@@ -123,8 +123,8 @@ impl<'a> Builder<'a> {
     }
 
     /// The bench, once all images and disks were taken. Each guest gets a Clint, a Uart, its disks and its
-    /// nics; each link becomes two wires, and a pipe at the nics of both its ends. The bench stands at the opening of the experiment with what was taken, before its first host
-    /// tick. It is refused with the first kind of which there are too few devices; `stock` has a list
+    /// nics; each link becomes two wires, and a pipe at the nics of both its ends. The bench stands at the
+    /// opening of the experiment with what was taken, before its first host tick. It is refused with the first kind of which there are too few devices; `stock` has a list
     /// for each kind, in their order.
     pub fn finish<D: Device>(self, stock: [Vec<D>; 4]) -> Result<Bench<Machine<D>>, BuildFault>
         requires images { images_added self ≡ images_wanted self }
@@ -132,8 +132,8 @@ impl<'a> Builder<'a> {
         requires stock { IsStock D.state (items_of stock) }
         ensures stands { IfOk result (λ bench. (e : Experiment) (slots : List ℕ) (i : Inputs) (n : ℕ) → IsBuilding e slots i self.entry →
             BenchStands (setup e i) bench n × IsAtTick (setup e i) bench n start) }
-        ensures plan { IfOk result (λ bench. (e : Experiment) (slots : List ℕ) (i : Inputs) (n : ℕ) → IsBuilding e slots i self.entry →
-            plan_of bench n ≡ plan e slots n) }
+        ensures host_setup { IfOk result (λ bench. (e : Experiment) (slots : List ℕ) (i : Inputs) (n : ℕ) → IsBuilding e slots i self.entry →
+            host_setup_of bench n ≡ host_setup e slots n) }
         ensures going { IfOk result (λ bench. bench_failed bench ≡ false) }
         ensures made { IfOk result (λ bench. ticks_made bench ≡ 0) }
         ensures count { IfOk result (λ bench. members_of bench ≡ images_wanted self.entry) }

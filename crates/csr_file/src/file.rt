@@ -34,7 +34,16 @@ impl Model for CsrFile {
 
     ghost Value = { Csrs };
 
-    ghost view = { λ c. record { enabled = c.enabled; was_enabled = c.was_enabled; mie = c.mie; mtvec = c.mtvec; mscratch = c.mscratch; mepc = c.mepc; mcause = c.mcause; mtval = c.mtval } };
+    ghost view = { λ c. record {
+      enabled = c.enabled;
+      was_enabled = c.was_enabled;
+      mie = c.mie;
+      mtvec = c.mtvec;
+      mscratch = c.mscratch;
+      mepc = c.mepc;
+      mcause = c.mcause;
+      mtval = c.mtval;
+    } };
 }
 
 /// The low half of a counter.

@@ -48,7 +48,8 @@ fn frame_len(frame: &Frame) -> u64
 
 /// The first frame, where it leaves in this tick.
 fn pop_leaving(held: &mut HeapCircularBuffer<HeldFrame>, now: u64) -> Option<Frame>
-    ensures some { IfSome result (λ f. (front_in now held.old.items ≡ f ∷ front_in now held.new.items) × (rest_in now held.old.items ≡ rest_in now held.new.items)) }
+    ensures some { IfSome result (λ f. (front_in now held.old.items ≡ f ∷ front_in now held.new.items)
+        × (rest_in now held.old.items ≡ rest_in now held.new.items)) }
     ensures shorter { IfSome result (λ f. length held.new.items + 1 ≡ length held.old.items) }
     ensures none { IfNone result ((front_in now held.old.items ≡ []) × (rest_in now held.old.items ≡ held.old.items) × (held.new.items ≡ held.old.items)) }
     ensures capacity { held.new.capacity ≡ held.old.capacity }

@@ -3,9 +3,9 @@ ghost use Rattle.std.specs.Prelude.{◌≡◌, ℕ, length, false, IfOk, IfErr};
 ghost use Rattle.exp_file.specs.Lists.{without_room};
 ghost use Rattle.exp_file.specs.WellFormed.{IsWellFormed};
 ghost use Rattle.host_plan.specs.Fits.{Fits, IsPlacement};
-ghost use Rattle.slot_sched.specs.BenchWords.{BenchStands, IsAtTick, plan_of, ticks_made, bench_failed, members_of};
+ghost use Rattle.slot_sched.specs.BenchWords.{BenchStands, IsAtTick, host_setup_of, ticks_made, bench_failed, members_of};
 ghost use Rattle.slot_sched.specs.Legal.{start};
-ghost use Rattle.bench_build.specs.Setups.{setup, plan};
+ghost use Rattle.bench_build.specs.Setups.{setup, host_setup};
 ghost use Rattle.bench_build.specs.Stocks.{IsStock, counts, items_of};
 ghost use Rattle.open_images.specs.Openings.{AreImages, Built, Unbuilt, Unopened, images_alone};
 ghost use Rattle.open_images.specs.Reads.{AreRead, files_seen};
@@ -36,7 +36,7 @@ pub fn open_files<F: Files, D: Device>(
     requires fits { Fits e.now p.now.slots.items }
     requires stock { IsStock D.state (items_of stock) }
     ensures opened { IfOk result (λ bench. Built (AreRead (F.held files.old) e.now) (counts (items_of stock)) (without_room e.now) (λ i. (n : ℕ) →
-        BenchStands (setup e.now i) bench n × IsAtTick (setup e.now i) bench n start × (plan_of bench n ≡ plan e.now p.now.slots.items n))) }
+        BenchStands (setup e.now i) bench n × IsAtTick (setup e.now i) bench n start × (host_setup_of bench n ≡ host_setup e.now p.now.slots.items n))) }
     ensures unopened { IfErr result (Unopened (files_seen F.Files files.old) (files_seen F.Files files.new) (counts (items_of stock)) (without_room e.now)) }
     ensures going { IfOk result (λ bench. bench_failed bench ≡ false) }
     ensures fresh { IfOk result (λ bench. ticks_made bench ≡ 0) }
@@ -66,7 +66,7 @@ pub fn open_load<D: Device>(
     requires images { AreImages e.now images.now }
     requires stock { IsStock D.state (items_of stock) }
     ensures opened { IfOk result (λ bench. Built (λ i. i ≡ images_alone images.now) (counts (items_of stock)) (without_room e.now) (λ i. (n : ℕ) →
-        BenchStands (setup e.now i) bench n × IsAtTick (setup e.now i) bench n start × (plan_of bench n ≡ plan e.now p.now.slots.items n))) }
+        BenchStands (setup e.now i) bench n × IsAtTick (setup e.now i) bench n start × (host_setup_of bench n ≡ host_setup e.now p.now.slots.items n))) }
     ensures unopened { IfErr result (Unbuilt (λ i. i ≡ images_alone images.now) (counts (items_of stock)) (without_room e.now)) }
     ensures going { IfOk result (λ bench. bench_failed bench ≡ false) }
     ensures fresh { IfOk result (λ bench. ticks_made bench ≡ 0) }

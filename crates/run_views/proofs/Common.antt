@@ -11,6 +11,6 @@ unfoldable pub use Rattle.host_journal.specs.Guests.{guests_text, guests_head}
 pub use Rattle.host_journal.specs.declared.head.Head.{Head}
 pub use Rattle.slot_sched.specs.Legal.{Rules, IsComplete, IsLegal}
 pub use Rattle.bench_build.specs.Inputs.{Inputs}
-pub use Rattle.bench_build.specs.Setups.{run_rules, setup, plan}
+pub use Rattle.bench_build.specs.Setups.{run_rules, setup, host_setup}
 pub use Rattle.run_views.specs.Runs.{IsHead, Shows, PutsCut, RunPuts}
 pub use Rattle.run_views.specs.Texts.{ShowsGuests, text, traces_shown}

@@ -5,7 +5,7 @@ use Rattle.tb_io.proofs.Parts.{part_longer}
 use Rattle.tb_io.specs.declared.write_err.WriteErr.{WriteErr}
 use Rattle.lookahead_core.specs.Synchronous.{Setup}
 use Rattle.guest_machine.specs.Tick.{MachineState, machine_motion}
-use Rattle.slot_sched.specs.Schedule.{Plan as Schedule, rules}
+use Rattle.slot_sched.specs.Schedule.{HostSetup, rules}
 
 -- texts of guests that are alike below n
 alike_below : (t u : ℕ → List ℕ) (n : ℕ) → ((g : ℕ) → g < n → t g ≡ u g) → texts_below t n ≡ texts_below u n
@@ -33,8 +33,8 @@ guests_show title shown view e n h r is of early =
       before = λ old new j part. subst (λ (t : List ℕ). TakesPart old new t) (sym (of h r j)) (part_longer old new [] (guests_text title shown h (traces_shown h r)) part);
     }
 
--- what is put by the rules of a plan is put by those of the same plan
-pub put_by : (x : Setup MachineState) {p q : Schedule} (whole shown t : List Entry → List ℕ) (old new : Option (List ℕ)) (result : Result (Unit {0}) WriteErr) → p ≡ q
+-- what is put by the rules of the setup of a host is put by those of the same setup
+pub put_by : (x : Setup MachineState) {p q : HostSetup} (whole shown t : List Entry → List ℕ) (old new : Option (List ℕ)) (result : Result (Unit {0}) WriteErr) → p ≡ q
     → (Shows (rules machine_motion x p) whole shown t → RunPuts t (rules machine_motion x p) old new result)
     → Shows (rules machine_motion x q) whole shown t → RunPuts t (rules machine_motion x q) old new result
-put_by x whole shown t old new result same = subst (λ (q : Schedule). Shows (rules machine_motion x q) whole shown t → RunPuts t (rules machine_motion x q) old new result) same
+put_by x whole shown t old new result same = subst (λ (q : HostSetup). Shows (rules machine_motion x q) whole shown t → RunPuts t (rules machine_motion x q) old new result) same

@@ -4,11 +4,11 @@ ghost use Rattle.exp_file.specs.declared.experiment.Experiment.{Experiment};
 ghost use Rattle.exp_file.specs.WellFormed.{IsWellFormed};
 ghost use Rattle.trace_rec.specs.declared.view.View.{View};
 ghost use Rattle.lookahead_core.specs.Synchronous.{Setup};
-ghost use Rattle.slot_sched.specs.BenchWords.{BenchStands, IsAtTick, plan_of, ticks_made, bench_failed, members_of};
+ghost use Rattle.slot_sched.specs.BenchWords.{BenchStands, IsAtTick, host_setup_of, ticks_made, bench_failed, members_of};
 ghost use Rattle.slot_sched.specs.Legal.{start};
 ghost use Rattle.slot_sched.specs.Schedule.{rules};
 ghost use Rattle.bench_build.specs.Inputs.{Inputs};
-ghost use Rattle.bench_build.specs.Setups.{setup, plan};
+ghost use Rattle.bench_build.specs.Setups.{setup, host_setup};
 ghost use Rattle.tb_io.specs.Causes.{WriteCause};
 ghost use Rattle.host_journal.specs.Entries.{Entry};
 ghost use Rattle.host_journal.specs.GuestKeepers.{head_of, IsEmpty};
@@ -76,8 +76,8 @@ fn put_run<N: Node, O: Sink, K: Show<O>>(
     requires members { members_of bench ≤ K.members keep.old }
     requires made { K.is_fresh keep.old }
     ensures puts { (x : Setup N.State) (text : List Entry → List ℕ) → BenchStands x bench host_ticks → IsAtTick x bench host_ticks start →
-        Shows (rules N.motion x (plan_of bench host_ticks)) (K.text keep.old) (K.shown keep.old) text →
-        RunPuts text (rules N.motion x (plan_of bench host_ticks)) (O.taken out.old) (O.taken out.new) result }
+        Shows (rules N.motion x (host_setup_of bench host_ticks)) (K.text keep.old) (K.shown keep.old) text →
+        RunPuts text (rules N.motion x (host_setup_of bench host_ticks)) (O.taken out.old) (O.taken out.new) result }
     ensures cause { WriteCause (O.faults out.old) (O.faults out.new) result }
 {
     let mut bench = bench;
@@ -107,7 +107,8 @@ fn put_lines<O: Sink, D: Device>(
     requires few { host_ticks ≤ 1000000 }
     requires members { members_of bench ≡ length head.names.items }
     ensures runs { (e : Experiment) (slots : List ℕ) (i : Inputs) → IsHead e host_ticks head →
-        BenchStands (setup e i) bench host_ticks → IsAtTick (setup e i) bench host_ticks start → plan_of bench host_ticks ≡ plan e slots host_ticks →
+        BenchStands (setup e i) bench host_ticks → IsAtTick (setup e i) bench host_ticks start →
+        host_setup_of bench host_ticks ≡ host_setup e slots host_ticks →
         Runs view e slots i host_ticks (O.taken out.old) (O.taken out.new) result }
     ensures cause { WriteCause (O.faults out.old) (O.faults out.new) result }
 {
@@ -131,7 +132,8 @@ fn put_guests<O: Sink, D: Device, H: Held>(
     requires empty { IsEmpty keep }
     ensures runs { (view : View) (e : Experiment) (slots : List ℕ) (i : Inputs) → IsHead e host_ticks (head_of keep) →
         ShowsGuests view H.title H.shown →
-        BenchStands (setup e i) bench host_ticks → IsAtTick (setup e i) bench host_ticks start → plan_of bench host_ticks ≡ plan e slots host_ticks →
+        BenchStands (setup e i) bench host_ticks → IsAtTick (setup e i) bench host_ticks start →
+        host_setup_of bench host_ticks ≡ host_setup e slots host_ticks →
         Runs view e slots i host_ticks (O.taken out.old) (O.taken out.new) result }
     ensures cause { WriteCause (O.faults out.old) (O.faults out.new) result }
 {
@@ -157,7 +159,7 @@ pub fn run<O: Sink, D: Device>(
     requires members { members_of bench ≡ length e.now.guests.items }
     ensures runs { (slots : List ℕ) (i : Inputs) →
         BenchStands (setup e.now i) bench host_ticks → IsAtTick (setup e.now i) bench host_ticks start →
-        plan_of bench host_ticks ≡ plan e.now slots host_ticks →
+        host_setup_of bench host_ticks ≡ host_setup e.now slots host_ticks →
         Runs view e.now slots i host_ticks (O.taken out.old) (O.taken out.new) result }
     ensures cause { WriteCause (O.faults out.old) (O.faults out.new) result }
 {

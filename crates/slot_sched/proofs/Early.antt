@@ -12,7 +12,7 @@ use Rattle.host_journal.specs.Entries.{Entry, Host, Slot, Ran, End}
 use Rattle.host_journal.specs.Guests.{is_below, recs_below}
 use Rattle.host_journal.specs.Printed.{count_of}
 use Rattle.slot_sched.specs.Legal.{Rules, At, MayCome, IsLegalFrom, IsComplete, after, after_all, count_at, start}
-use Rattle.slot_sched.specs.Schedule.{Plan, rules}
+use Rattle.slot_sched.specs.Schedule.{HostSetup, rules}
 use Rattle.slot_sched.specs.Told.{RecordsNameTicks}
 use Rattle.slot_sched.proofs.Telling.{tells, counts_told, share_done}
 
@@ -61,7 +61,7 @@ trace_cut m x g (suc n) k named le = elim (cases_lt n k) [
       ∙ append-nil (trace m x g k)
 ]
 
-pub early_told : {S : Type 0} (m : Motion S) (x : Setup S) (p : Plan) (es : List Entry) (g k : ℕ) → RecordsNameTicks m x → IsComplete (rules m x p) es → g < x.count → k ≤ p.host_ticks / p.factor
+pub early_told : {S : Type 0} (m : Motion S) (x : Setup S) (p : HostSetup) (es : List Entry) (g k : ℕ) → RecordsNameTicks m x → IsComplete (rules m x p) es → g < x.count → k ≤ p.host_ticks / p.factor
     → recs_below k es g ≡ trace m x g k
 early_told m x p es g k named complete lt le =
     let r : Rules = rules m x p in

@@ -1,10 +1,10 @@
 -- One part of a host tick after another.
 use Rattle.std.proofs.Common.{◌≡◌, ℕ, Result, Ok, Err, refl, sym, ◌∙◌, subst}
 use Rattle.lookahead_core.specs.declared.node.Node.{Ghosts}
-use Rattle.slot_sched.specs.BenchWords.{plan_from}
+use Rattle.slot_sched.specs.BenchWords.{host_setup_from}
 use Rattle.slot_sched.specs.Causes.{TickCause}
 use Rattle.slot_sched.specs.Parts.{WorksBy, IsSame, Leaves}
-use Rattle.slot_sched.specs.Schedule.{Plan}
+use Rattle.slot_sched.specs.Schedule.{HostSetup}
 use Rattle.slot_sched.specs.declared.fault.TickFault.{TickFault}
 use Rattle.slot_sched.specs.declared.scheduler.Scheduler.{Scheduler}
 
@@ -48,9 +48,9 @@ module _ {N : Type 0} {G : Ghosts N} {old mid new : Scheduler N G} where
   }
 
 module _ {N : Type 0} {G : Ghosts N} {old new : Scheduler N G} where
-  -- it works by the same plan
-  pub works_on : {p : Plan} {k : ℕ} → WorksBy old p k → IsSame old new → WorksBy new p k
+  -- it works with the same setup
+  pub works_on : {p : HostSetup} {k : ℕ} → WorksBy old p k → IsSame old new → WorksBy new p k
   works_on w s = record { homes = w.homes ∙ sym s.homes; capacities = w.capacities ∙ sym s.capacities; target = s.target ∙ w.target }
 
-  pub plan_same : (factor n : ℕ) → IsSame old new → plan_from new.homes.items new.capacities.items factor n ≡ plan_from old.homes.items old.capacities.items factor n
-  plan_same factor n s = rw (s.homes, s.capacities) refl
+  pub host_setup_same : (factor n : ℕ) → IsSame old new → host_setup_from new.homes.items new.capacities.items factor n ≡ host_setup_from old.homes.items old.capacities.items factor n
+  host_setup_same factor n s = rw (s.homes, s.capacities) refl

@@ -5,7 +5,7 @@ use Rattle.lookahead_core.specs.declared.node.Node.{Ghosts}
 use Rattle.lookahead_core.specs.declared.node_core.Core.{Core}
 use Rattle.slot_sched.specs.Causes.{TickCause}
 use Rattle.slot_sched.specs.Queues.{AreQueued}
-use Rattle.slot_sched.specs.Schedule.{Plan}
+use Rattle.slot_sched.specs.Schedule.{HostSetup}
 use Rattle.slot_sched.specs.declared.fault.TickFault.{TickFault}
 use Rattle.slot_sched.specs.declared.scheduler.Scheduler.{Scheduler}
 
@@ -18,8 +18,8 @@ pub record CanGo {N : Type 0} {G : Ghosts N} (core : Core N G) : Type 0 where
 abbrev pub IsQueued : {N : Type 0} {G : Ghosts N} → Scheduler N G → Type 0
 IsQueued s = AreQueued (ticks_done s.core) s.homes.items (length s.homes.items) s.queues.items
 
--- the scheduler works by this plan, and each node has to reach tick k
-pub record WorksBy {N : Type 0} {G : Ghosts N} (s : Scheduler N G) (p : Plan) (k : ℕ) : Type 0 where
+-- the scheduler works by this setup, and each node has to reach tick k
+pub record WorksBy {N : Type 0} {G : Ghosts N} (s : Scheduler N G) (p : HostSetup) (k : ℕ) : Type 0 where
   pub homes : p.homes ≡ s.homes.items
   pub capacities : p.capacities ≡ s.capacities.items
   pub target : s.target ≡ k

@@ -7,7 +7,7 @@ use Rattle.lookahead_core.specs.CoreWords.{StandsFor, GoesOn, Rests, node_count,
 use Rattle.lookahead_core.specs.declared.node.Node.{Ghosts}
 use Rattle.lookahead_core.specs.declared.node_core.Core.{Core}
 use Rattle.slot_sched.specs.Legal.{At, MayLeave, IsFull}
-use Rattle.slot_sched.specs.Schedule.{Plan, home_of, capacity_of, rules, sum_at}
+use Rattle.slot_sched.specs.Schedule.{HostSetup, home_of, capacity_of, rules, sum_at}
 
 -- what a node lacks of the work of k ticks, by its units
 abbrev pub lack : {S : Type 0} → Motion S → Setup S → ℕ → (ℕ → ℕ) → ℕ → ℕ
@@ -29,14 +29,14 @@ pub record InTurn {N : Type 0} {G : Ghosts N} (x : Setup G.State) (core : Core N
   pub spent_is : at.spent ≡ spent
 
 -- between turns: so many slots had theirs, and the last one may be left
-pub record Between {N : Type 0} {G : Ghosts N} (x : Setup G.State) (core : Core N G) (p : Plan) (host turns : ℕ) (at : At) : Type 0 where
+pub record Between {N : Type 0} {G : Ghosts N} (x : Setup G.State) (core : Core N G) (p : HostSetup) (host turns : ℕ) (at : At) : Type 0 where
   pub here : IsAt x core at
   pub turns_are : at.turns ≡ turns
   pub host_is : at.host ≡ host
   pub may_leave : MayLeave (rules G.motion x p) at
 
 -- between host ticks
-pub record BetweenTicks {N : Type 0} {G : Ghosts N} (x : Setup G.State) (core : Core N G) (p : Plan) (host : ℕ) (at : At) : Type 0 where
+pub record BetweenTicks {N : Type 0} {G : Ghosts N} (x : Setup G.State) (core : Core N G) (p : HostSetup) (host : ℕ) (at : At) : Type 0 where
   pub here : IsAt x core at
   pub host_is : at.host ≡ host
   pub opening : at.host ≡ 0 → at.turns ≡ 0
@@ -55,7 +55,7 @@ abbrev pub HasDone : {N : Type 0} {G : Ghosts N} → Core N G → ℕ → Type 0
 HasDone core k = (g : ℕ) → g < node_count core → k ≤ ticks_done core g + 1
 
 -- what the nodes of a slot lack together of the work of k ticks
-abbrev pub owed : {N : Type 0} {G : Ghosts N} → Setup G.State → Core N G → Plan → ℕ → ℕ → ℕ
+abbrev pub owed : {N : Type 0} {G : Ghosts N} → Setup G.State → Core N G → HostSetup → ℕ → ℕ → ℕ
 owed {N} {G} x core p k s = sum_at (home_of p) s (lack G.motion x k (units_spent x core)) x.count
 
 -- the core went on at a node by at least one unit. A node that has not done k ticks went on at most to the end of tick k
@@ -76,28 +76,28 @@ pub record Served {N : Type 0} {G : Ghosts N} (x : Setup G.State) (old new : Cor
   pub moved : Moved x old new who k used
 
 -- within a turn, of the core at its start and now: what is owed on this slot fell by the units spent, or is 0
-pub record Serving {N : Type 0} {G : Ghosts N} (x : Setup G.State) (old new : Core N G) (p : Plan) (host slot k spent : ℕ) (at : At) : Type 0 where
+pub record Serving {N : Type 0} {G : Ghosts N} (x : Setup G.State) (old new : Core N G) (p : HostSetup) (host slot k spent : ℕ) (at : At) : Type 0 where
   pub turn : InTurn x new host slot spent at
   pub has_done : HasDone new k
   pub mine : owed x new p k slot ≤ owed x old p k slot - spent
   pub others : (s : ℕ) → s ≢ slot → owed x new p k s ≡ owed x old p k s
 
 -- after a turn: what is owed on this slot fell by its capacity, or is 0
-pub record TurnDone {N : Type 0} {G : Ghosts N} (x : Setup G.State) (old new : Core N G) (p : Plan) (host slot k : ℕ) (at : At) : Type 0 where
+pub record TurnDone {N : Type 0} {G : Ghosts N} (x : Setup G.State) (old new : Core N G) (p : HostSetup) (host slot k : ℕ) (at : At) : Type 0 where
   pub between : Between x new p host (slot + 1) at
   pub has_done : HasDone new k
   pub mine : owed x new p k slot ≤ owed x old p k slot - capacity_of p slot
   pub others : (s : ℕ) → s ≢ slot → owed x new p k s ≡ owed x old p k s
 
 -- after the turns of so many slots: what is owed on each of these fell by its capacity, or is 0
-pub record TurnsDone {N : Type 0} {G : Ghosts N} (x : Setup G.State) (old new : Core N G) (p : Plan) (host turns k : ℕ) (at : At) : Type 0 where
+pub record TurnsDone {N : Type 0} {G : Ghosts N} (x : Setup G.State) (old new : Core N G) (p : HostSetup) (host turns k : ℕ) (at : At) : Type 0 where
   pub between : Between x new p host turns at
   pub has_done : HasDone new k
   pub served : (s : ℕ) → s < turns → owed x new p k s ≤ owed x old p k s - capacity_of p s
   pub waiting : (s : ℕ) → turns ≤ s → owed x new p k s ≡ owed x old p k s
 
 -- after t host ticks: each node has done t / factor ticks, and what is owed of the next one can still be paid
-pub record KeepsUp {N : Type 0} {G : Ghosts N} (x : Setup G.State) (core : Core N G) (p : Plan) (t : ℕ) : Type 0 where
+pub record KeepsUp {N : Type 0} {G : Ghosts N} (x : Setup G.State) (core : Core N G) (p : HostSetup) (t : ℕ) : Type 0 where
   pub has_done : HasDone core (t / p.factor + 1)
   pub owes : (s : ℕ) → s < length p.capacities → owed x core p (t / p.factor + 1) s ≤ capacity_of p s * ((t / p.factor + 1) * p.factor - t)
   pub fit : (s : ℕ) → s < length p.capacities → sum_at (home_of p) s (λ g. G.motion.rate (x.opening g)) x.count ≤ capacity_of p s * p.factor

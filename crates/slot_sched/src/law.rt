@@ -9,7 +9,7 @@ ghost use Rattle.host_journal.specs.Printed.{count_of, is_past, up_to_tick};
 ghost use Rattle.host_journal.specs.Texts.{journal_text};
 ghost use Rattle.host_journal.specs.declared.head.Head.{Head};
 ghost use Rattle.slot_sched.specs.Legal.{Rules, IsLegal, IsComplete};
-ghost use Rattle.slot_sched.specs.Schedule.{Plan, rules};
+ghost use Rattle.slot_sched.specs.Schedule.{HostSetup, rules};
 ghost use Rattle.slot_sched.specs.Told.{Tells, RecordsNameTicks};
 
 use lookahead_core::Node;
@@ -19,10 +19,10 @@ use lookahead_core::Node;
 /// where that count is at least t / factor. Where records name their ticks, those of a guest's first
 /// k ticks in a complete journal are its trace up to k, for each k that all guests are sure to reach.
 pub fn journals_tell_traces<N: Node>()
-    ensures told { (x : Setup N.State) (p : Plan) (es : List Entry) → IsLegal (rules N.motion x p) es → (g : ℕ) → Tells (rules N.motion x p) es g }
-    ensures kept_up { (x : Setup N.State) (p : Plan) (es : List Entry) (t g : ℕ) → IsLegal (rules N.motion x p) es
+    ensures told { (x : Setup N.State) (p : HostSetup) (es : List Entry) → IsLegal (rules N.motion x p) es → (g : ℕ) → Tells (rules N.motion x p) es g }
+    ensures kept_up { (x : Setup N.State) (p : HostSetup) (es : List Entry) (t g : ℕ) → IsLegal (rules N.motion x p) es
         → list_any (is_past t) es ≡ true → t ≤ p.host_ticks → g < x.count → t / p.factor ≤ count_of g (up_to_tick t es) }
-    ensures early { (x : Setup N.State) (p : Plan) (es : List Entry) (g k : ℕ) → RecordsNameTicks N.motion x → IsComplete (rules N.motion x p) es
+    ensures early { (x : Setup N.State) (p : HostSetup) (es : List Entry) (g k : ℕ) → RecordsNameTicks N.motion x → IsComplete (rules N.motion x p) es
         → g < x.count → k ≤ p.host_ticks / p.factor → recs_below k es g ≡ trace N.motion x g k }
 {}
 

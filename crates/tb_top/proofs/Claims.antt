@@ -1,5 +1,5 @@
 -- What follows from how a command ends.
-use Rattle.tb_top.proofs.Common.{◌≡◌, ◌≢◌, ◌∙◌, ℕ, ◌<◌, ◌≤◌, ◌/◌, ◌⊎◌, true, List, [], length, Option, Some, None, IfSome, Ok, Err, inl, inr, refl, sym, ap, subst, arith, Rose, View, Experiment, MachineState, machine_motion, Fits, IsFirstOverload, placed, Overload, count_of, up_to_tick, IsComplete, Schedule, rules, Inputs, plan, run_rules, setup, Suffices, IsShort, Loaded, IsRead, IsTooLong, IsContent, image_limit, disk_limit, OpenFault, IsUnopened, Ends, no_memory, no_experiment, ended, Refuses, IsAsked, TaskEnds, Asks, IsRight, MayRun, IsTold, IsToldOf, IsPartPut, FilesServed, OutServed, Completes, IsPlanned, is_made, Origin, File, Load, Task, Run, Plan, origin_of, task_of, AreFor, IsFrom, Says, experiment_limit, Plans, open_status, World, Quiet, Status, Done, Usage, Refused, Build, TooLong, ReadFault, WriteFault, Memory}
+use Rattle.tb_top.proofs.Common.{◌≡◌, ◌≢◌, ◌∙◌, ℕ, ◌<◌, ◌≤◌, ◌/◌, ◌⊎◌, true, List, [], length, Option, Some, None, IfSome, Ok, Err, inl, inr, refl, sym, ap, subst, arith, Rose, View, Experiment, MachineState, machine_motion, Fits, IsFirstOverload, placed, Overload, count_of, up_to_tick, IsComplete, Schedule, rules, Inputs, host_setup, run_rules, setup, Suffices, IsShort, Loaded, IsRead, IsTooLong, IsContent, image_limit, disk_limit, OpenFault, IsUnopened, Ends, no_memory, no_experiment, ended, Refuses, IsAsked, TaskEnds, Asks, IsRight, MayRun, IsTold, IsToldOf, IsPartPut, FilesServed, OutServed, Completes, IsPlanned, is_made, Origin, File, Load, Task, Run, Plan, origin_of, task_of, AreFor, IsFrom, Says, experiment_limit, Plans, open_status, World, Quiet, Status, Done, Usage, Refused, Build, TooLong, ReadFault, WriteFault, Memory}
 use Rattle.tb_io.proofs.Parts.{part_whole}
 use Rattle.lookahead_core.specs.Synchronous.{Setup}
 use Rattle.exp_file.specs.declared.disk_spec.DiskSpec.{DiskSpec}
@@ -183,7 +183,7 @@ judged w o t e s h calm = absurd h
 traced : Laws → (e : Experiment) (i : Inputs) (n : ℕ) (j : List Entry) → IsComplete (run_rules e (placed e) i n) j → (t : ℕ) → t ≤ n → (g : ℕ) → g < length e.guests.items
     → IsTraced e i t g (up_to_tick t j)
 traced laws e i n j complete t few g lt =
-    let p = plan e (placed e) n in
+    let p = host_setup e (placed e) n in
     let told = laws.told (setup e i) p j t g complete in
     let far = laws.kept_up (setup e i) p j t g complete few lt in
     record { virtual_tick = count_of g (up_to_tick t j); records = told.records; far_enough = far; counted = refl; paid = told.clock }

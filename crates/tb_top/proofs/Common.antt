@@ -10,10 +10,10 @@ pub use Rattle.host_plan.specs.Placing.{placed}
 pub use Rattle.host_plan.specs.declared.overload.Overload.{Overload as Over, Overload}
 pub use Rattle.host_journal.specs.Printed.{count_of, up_to_tick}
 pub use Rattle.slot_sched.specs.Legal.{IsComplete, start}
-pub use Rattle.slot_sched.specs.Schedule.{Plan as Schedule, rules}
+pub use Rattle.slot_sched.specs.Schedule.{HostSetup, rules}
 pub use Rattle.guest_machine.specs.Tick.{MachineState, machine_motion}
 pub use Rattle.bench_build.specs.Inputs.{Inputs}
-pub use Rattle.bench_build.specs.Setups.{plan, run_rules, setup}
+pub use Rattle.bench_build.specs.Setups.{host_setup, run_rules, setup}
 pub use Rattle.bench_build.specs.Stocks.{Suffices, IsShort, counts, items_of}
 pub use Rattle.open_images.specs.Openings.{Built, Loaded, AreImages, images_alone, Unopened}
 pub use Rattle.open_images.specs.Reads.{IsRead, IsTooLong, IsContent, image_limit, disk_limit, files_seen, FilesSeen, AreRead}

@@ -17,7 +17,7 @@ returns-in-Ok-finish-clause-opened g c =
       inputs = t.inputs;
       loaded = t.loaded;
       enough = record { of = (c.in-Ok-finish.ensures.stock _ _ t.inputs t.building).of };
-      holds = λ n. let s = c.in-Ok-finish.ensures.stands _ _ t.inputs n t.building in (s.0, s.1, c.in-Ok-finish.ensures.plan _ _ t.inputs n t.building);
+      holds = λ n. let s = c.in-Ok-finish.ensures.stands _ _ t.inputs n t.building in (s.0, s.1, c.in-Ok-finish.ensures.host_setup _ _ t.inputs n t.building);
     }
 
 pub returns-in-Err-finish-clause-unopened : goal.returns-in-Err-finish-clause-unopened

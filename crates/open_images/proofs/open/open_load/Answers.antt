@@ -14,7 +14,7 @@ returns-in-Ok-finish-clause-opened g c =
       inputs = images_alone c.args.images.now;
       loaded = refl;
       enough = record { of = (c.in-Ok-finish.ensures.stock _ _ _ building).of };
-      holds = λ n. let s = c.in-Ok-finish.ensures.stands _ _ _ n building in (s.0, s.1, c.in-Ok-finish.ensures.plan _ _ _ n building);
+      holds = λ n. let s = c.in-Ok-finish.ensures.stands _ _ _ n building in (s.0, s.1, c.in-Ok-finish.ensures.host_setup _ _ _ n building);
     }
 
 pub returns-in-Err-finish-clause-unopened : goal.returns-in-Err-finish-clause-unopened

@@ -1,7 +1,7 @@
 -- What the keeper stands for is what out has taken.
 use Rattle.run_views.proofs.Common.{◌≡◌, ℕ, List, [], ◌∷◌, ◌++◌, Option, Result, Ok, Err, OnOk, ap, ◌∙◌, subst, Takes, TakesPart, Entry, End, Rules, IsLegal, IsComplete, Shows, PutsCut, RunPuts}
 use Rattle.tb_io.specs.declared.write_err.WriteErr.{WriteErr}
-use Rattle.slot_sched.specs.BenchWords.{plan_of}
+use Rattle.slot_sched.specs.BenchWords.{host_setup_of}
 use Rattle.slot_sched.specs.Schedule.{rules as rules_of}
 use Rattle.run_views.proofs.runs.put_run.Goals as goal
 
@@ -24,7 +24,7 @@ module _ (r : Rules) (was_whole was_shown whole shown text : List Entry → List
 
 pub returns-in-Err-clause-puts : goal.returns-in-Err-clause-puts
 returns-in-Err-clause-puts g c = λ x text stands tick shows.
-    cut (rules_of g.N.Node.motion x (plan_of c.args.bench c.args.host_ticks)) (g.K.Show.text c.args.keep.now) (g.K.Show.shown c.args.keep.now) (g.K.Show.text c.start.new.self) (g.K.Show.shown c.start.new.self)
+    cut (rules_of g.N.Node.motion x (host_setup_of c.args.bench c.args.host_ticks)) (g.K.Show.text c.args.keep.now) (g.K.Show.shown c.args.keep.now) (g.K.Show.text c.start.new.self) (g.K.Show.shown c.start.new.self)
     text shows (g.O.Sink.taken c.args.out.now) (g.O.Sink.taken c.start.new.out)
     (g.met.K.Show.same_shown c.start.new.self c.args.keep.now c.in-Err.ensures.head)
     [] tt (g.met.K.Show.part c.start.new.self _ _ [] (c.in-Err.ensures.stands c.requires.made))
@@ -32,7 +32,7 @@ returns-in-Err-clause-puts g c = λ x text stands tick shows.
 pub returns-in-Err-run-clause-puts : goal.returns-in-Err-run-clause-puts
 returns-in-Err-run-clause-puts g c = λ x text stands tick shows.
     let found = c.in-Err-run.ensures.stopped x _ stands tick c.requires.fresh (c.in-Ok.ensures.stands c.requires.made) in
-    cut (rules_of g.N.Node.motion x (plan_of c.args.bench c.args.host_ticks)) (g.K.Show.text c.args.keep.now) (g.K.Show.shown c.args.keep.now) (g.K.Show.text c.run.new.keep) (g.K.Show.shown c.run.new.keep)
+    cut (rules_of g.N.Node.motion x (host_setup_of c.args.bench c.args.host_ticks)) (g.K.Show.text c.args.keep.now) (g.K.Show.shown c.args.keep.now) (g.K.Show.text c.run.new.keep) (g.K.Show.shown c.run.new.keep)
     text shows (g.O.Sink.taken c.args.out.now) (g.O.Sink.taken c.run.new.out)
     (g.met.K.Show.same_shown c.run.new.keep c.args.keep.now (c.in-Err-run.ensures.head ∙ c.in-Ok.ensures.head))
     found.0 found.2 (g.met.K.Show.part c.run.new.keep _ _ found.0 found.1)
@@ -40,7 +40,7 @@ returns-in-Err-run-clause-puts g c = λ x text stands tick shows.
 pub returns-clause-puts : goal.returns-clause-puts
 returns-clause-puts g c = λ x text stands tick shows.
     let found = c.in-Ok-run.ensures.complete x _ stands tick c.requires.fresh (c.in-Ok.ensures.stands c.requires.made) in
-    finished (rules_of g.N.Node.motion x (plan_of c.args.bench c.args.host_ticks)) (g.K.Show.text c.args.keep.now) (g.K.Show.shown c.args.keep.now) (g.K.Show.text c.run.new.keep) (g.K.Show.shown c.run.new.keep)
+    finished (rules_of g.N.Node.motion x (host_setup_of c.args.bench c.args.host_ticks)) (g.K.Show.text c.args.keep.now) (g.K.Show.shown c.args.keep.now) (g.K.Show.text c.run.new.keep) (g.K.Show.shown c.run.new.keep)
     text shows (g.O.Sink.taken c.args.out.now) (g.O.Sink.taken c.finish.new.out)
     (λ before es. g.K.Keep.keeps c.run.new.keep before (g.O.Sink.taken c.run.new.out) es) c.finish.result
     (g.met.K.Show.same c.run.new.keep c.args.keep.now (c.in-Ok-run.ensures.head ∙ c.in-Ok.ensures.head)) found.0 found.2 found.1 c.finish.ensures.whole c.finish.ensures.part

@@ -1,5 +1,5 @@
 -- How each stage of a run of a file ends.
-use Rattle.tb_top.proofs.Common.{◌∙◌, ℕ, List, refl, ap, subst, without_room, Fits, placed, plan, counts, items_of, Unopened, FilesSeen, AreRead, files_seen, File, Run}
+use Rattle.tb_top.proofs.Common.{◌∙◌, ℕ, List, refl, ap, subst, without_room, Fits, placed, host_setup, counts, items_of, Unopened, FilesSeen, AreRead, files_seen, File, Run}
 use Rattle.tb_top.proofs.Endings.{unasked, unopened_ends, run_ends}
 use Rattle.tb_top.proofs.tasks.run_file.Goals as goal
 
@@ -27,4 +27,4 @@ returns-clause-ends g c = λ words are.
     rw c.run_status.ensures
     (run_ends (File c.args.name.now) n c.args.view (without_room read) (record { command = are; from = c.in-Ok.ensures.from }) (subst (Fits (without_room read)) c.in-Ok-fitting.ensures.placed c.in-Ok-fitting.ensures.fits)
     b.inputs (subst (λ (f : FilesSeen). AreRead f.held read b.inputs) c.in-Ok.ensures.same b.loaded) b.enough c.run.result c.run.ensures.cause
-    (c.run.ensures.runs (placed (without_room read)) b.inputs s.0 s.1 (s.2 ∙ ap (λ (q : List ℕ). plan read q n) c.in-Ok-fitting.ensures.placed)))
+    (c.run.ensures.runs (placed (without_room read)) b.inputs s.0 s.1 (s.2 ∙ ap (λ (q : List ℕ). host_setup read q n) c.in-Ok-fitting.ensures.placed)))

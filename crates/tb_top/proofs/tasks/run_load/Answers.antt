@@ -1,5 +1,5 @@
 -- How each stage of a run of a generated load ends.
-use Rattle.tb_top.proofs.Common.{◌≡◌, ◌∙◌, ℕ, List, refl, sym, ap, arith, subst, without_room, Fits, placed, plan, counts, items_of, AreImages, images_alone, no_memory, Load}
+use Rattle.tb_top.proofs.Common.{◌≡◌, ◌∙◌, ℕ, List, refl, sym, ap, arith, subst, without_room, Fits, placed, host_setup, counts, items_of, AreImages, images_alone, no_memory, Load}
 use Rattle.trace_rec.specs.declared.view.View.TheVariants.{Summary}
 use Rattle.open_images.specs.Openings.{Unbuilt}
 use Rattle.tb_top.proofs.Endings.{unopened_ends, run_ends}
@@ -35,4 +35,4 @@ returns-clause-ends g c = λ words files files_after are.
     rw c.run_status.ensures
     (run_ends (Load c.args.n) n Summary (without_room e) (record { command = are; from = c.in-Ok.ensures.experiment }) (subst (Fits (without_room e)) c.in-Ok-fitting.ensures.placed c.in-Ok-fitting.ensures.fits)
     b.inputs (b.loaded ∙ ap images_alone (c.as_slice-images.ensures ∙ c.in-Ok.ensures.images)) b.enough c.run.result c.run.ensures.cause
-    (c.run.ensures.runs (placed (without_room e)) b.inputs s.0 s.1 (s.2 ∙ ap (λ (q : List ℕ). plan e q n) c.in-Ok-fitting.ensures.placed)))
+    (c.run.ensures.runs (placed (without_room e)) b.inputs s.0 s.1 (s.2 ∙ ap (λ (q : List ℕ). host_setup e q n) c.in-Ok-fitting.ensures.placed)))

@@ -4,11 +4,11 @@ use Rattle.std.specs.Prelude.{slice_index}
 use Rattle.std.specs.List.{flat_map}
 use Rattle.std.proofs.lemmas.List.{length-map}
 use Rattle.lookahead_core.specs.CoreWords.{node_rate, node_count}
-use Rattle.slot_sched.specs.BenchWords.{plan_of}
+use Rattle.slot_sched.specs.BenchWords.{host_setup_of}
 use Rattle.slot_sched.specs.Schedule.{sum_at}
 use Rattle.guest_machine.specs.MachineView.{machine_state}
 use Rattle.bench_build.specs.Setups.{setup, capacity_of, pipes_of, wires_of}
-use Rattle.bench_build.proofs.Assembling.{devices_of, nics_are, rates_are, opening_is, plan_is}
+use Rattle.bench_build.proofs.Assembling.{devices_of, nics_are, rates_are, opening_is, host_setup_is}
 use Rattle.bench_build.proofs.LinkWires.{once_from, once_to, wires_join}
 use Rattle.bench_build.proofs.Loads.{capacities_in_range, fit_is}
 use Rattle.bench_build.proofs.builder.Builder.finish.Goals as goal
@@ -75,10 +75,10 @@ returns-in-Ok-new-clause-stands h c = λ e slots i n is.
     c.in-Ok.ensures.count c.requires.images
     (c.deref.ensures.value ∙ c.in-Ok-wires_for.ensures ∙ ap (flat_map wires_of) {x = c.as_slice.result.now} {y = b.experiment.now.links.items} c.as_slice.ensures)))
 
-pub returns-in-Ok-new-clause-plan : goal.returns-in-Ok-new-clause-plan
-returns-in-Ok-new-clause-plan h c = λ e slots i n is.
+pub returns-in-Ok-new-clause-host_setup : goal.returns-in-Ok-new-clause-host_setup
+returns-in-Ok-new-clause-host_setup h c = λ e slots i n is.
     let own = c.args.self.experiment.now in
     let caps : c.deref-2.result.now ≡ map capacity_of own.slots.items =
     c.deref-2.ensures.value ∙ c.in-Ok-capacities_of.ensures ∙ ap (map capacity_of) {x = c.as_slice-2.result.now} {y = own.slots.items} c.as_slice-2.ensures in
-    plan_is (plan_of c.in-Ok-new.bench n) own e c.as_slice-homes.result.now slots c.deref-2.result.now n (c.in-Ok-new.ensures.plan n) is.experiment
+    host_setup_is (host_setup_of c.in-Ok-new.bench n) own e c.as_slice-homes.result.now slots c.deref-2.result.now n (c.in-Ok-new.ensures.host_setup n) is.experiment
     (c.as_slice-homes.ensures ∙ is.placement) caps

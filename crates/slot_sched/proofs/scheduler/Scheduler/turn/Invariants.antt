@@ -4,7 +4,7 @@ use Rattle.lookahead_core.specs.CoreWords.{ticks_done}
 use Rattle.host_journal.specs.Entries.{Entry}
 use Rattle.slot_sched.specs.Legal.{At, Came}
 use Rattle.slot_sched.specs.Parts.{WorksBy, Leaves}
-use Rattle.slot_sched.specs.Schedule.{Plan, rules}
+use Rattle.slot_sched.specs.Schedule.{HostSetup, rules}
 use Rattle.slot_sched.specs.Turns.{Between, HasDone, Serving}
 use Rattle.slot_sched.proofs.scheduler.Scheduler.turn.Given as goal
 
@@ -14,7 +14,7 @@ invariant-loop-spent g l = record {
   within : l.spent ≤ l.capacity;
   early : (i : ℕ) → ticks_done l.self.core i ≤ ticks_done l.fn.self.core i + l.spent;
   others : (i : ℕ) → slice_index l.fn.self.homes.items i ≢ l.slot → ticks_done l.self.core i ≡ ticks_done l.fn.self.core i;
-  came : (x : Setup g.N.Node.State) (p : Plan) (k host : ℕ) (at : At) (was : Option (List ℕ)) (es : List Entry) →
+  came : (x : Setup g.N.Node.State) (p : HostSetup) (k host : ℕ) (at : At) (was : Option (List ℕ)) (es : List Entry) →
       Between x l.fn.self.core p host l.slot at → 1 ≤ host → WorksBy l.fn.self p k → HasDone l.fn.self.core k → g.K.Keep.keeps l.fn.keep was (g.O.Sink.taken l.fn.out) es →
       Came (rules g.N.Node.motion x p) (g.K.Keep.keeps l.keep was (g.O.Sink.taken l.out)) at es
       (λ there. Serving x l.fn.self.core l.self.core p host l.slot k l.spent there);
