@@ -124,8 +124,8 @@ impl<'a> Builder<'a> {
 
     /// The bench, once all images and disks were taken. Each guest gets a Clint, a Uart, its disks and its
     /// nics; each link becomes two wires, and a pipe at the nics of both its ends. The bench stands at the
-    /// opening of the experiment with what was taken, before its first host tick. It is refused with the first kind of which there are too few devices; `stock` has a list
-    /// for each kind, in their order.
+    /// opening of the experiment with what was taken, before its first host tick. It is refused with the
+    /// first kind of which there are too few devices; `stock` has a list for each kind, in their order.
     pub fn finish<D: Device>(self, stock: [Vec<D>; 4]) -> Result<Bench<Machine<D>>, BuildFault>
         requires images { images_added self ≡ images_wanted self }
         requires disks { disks_added self ≡ disks_wanted self }
