@@ -1,1 +1,5 @@
+mod Blocks
+mod LateTables
+mod Places
+mod Reserving
 pub mod Writes

@@ -1,2 +1,4 @@
--- Claims: all of it.
+-- Claims: LittleEndian and Pages. Tables says how pages are kept.
 pub mod LittleEndian
+pub mod Pages
+pub mod Tables

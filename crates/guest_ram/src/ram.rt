@@ -1,6 +1,7 @@
 //! RAM by address.
 ghost use Rattle.std.specs.Prelude.{◌≡◌, ◌+◌, ◌-◌, ◌<◌, ◌≤◌, IfOk, MatchResult, Ok, Err, length, replicate, slice_range};
 ghost use Rattle.tb_base.specs.Widths.{width_bytes};
+ghost use Rattle.byte_pages.specs.Pages.{AreThere};
 ghost use Rattle.guest_ram.specs.Bytes.{ram_base, IsRamSize, IsInRam, holds_range, index_of, ram_load, ram_store, ram_after, value_at, bytes_after};
 
 use crate::fault::MemFault;
@@ -14,7 +15,7 @@ pub const BASE: u32 = 0x8000_0000;
 
 /// The RAM of a guest: a list of bytes whose first has the address 0x8000_0000. Contracts see that list.
 ///
-/// Its size never changes. It is a multiple of 4096 from 4096 to 16,777,216.
+/// Its size never changes. It is a multiple of 4096 from 4096 to 16,777,216. All its pages are there.
 #[derive(Debug, Drop)]
 pub struct Ram {
     pages: Pages,
@@ -22,13 +23,14 @@ pub struct Ram {
 
 impl Model for Ram {
     ghost use Rattle.std.specs.Prelude.{List, ℕ, length};
+    ghost use Rattle.byte_pages.specs.Pages.{AreThere};
     ghost use Rattle.guest_ram.specs.Bytes.{IsRamSize};
 
     ghost Value = { List ℕ };
 
-    ghost view = { λ r. r.pages };
+    ghost view = { λ r. r.pages.bytes };
 
-    ghost invariant = { λ r. IsRamSize (length r.pages) };
+    ghost invariant = { λ r. IsRamSize (length r.pages.bytes) × AreThere r.pages 0 (length r.pages.bytes) };
 }
 
 /// How many bytes an access moves.
@@ -44,8 +46,8 @@ fn width_bytes(width: Width) -> u32
 
 /// The number that an access reads.
 fn value_at(pages: &Pages, at: usize, width: Width) -> u32
-    requires { at + width_bytes width ≤ length pages.now }
-    ensures { result ≡ value_at pages.now at width }
+    requires { at + width_bytes width ≤ length pages.now.bytes }
+    ensures { result ≡ value_at pages.now.bytes at width }
 {
     match width {
         Width::Byte => u32::from(pages.get(at)),
@@ -56,9 +58,11 @@ fn value_at(pages: &Pages, at: usize, width: Width) -> u32
 
 /// Puts the low bytes of a number.
 fn put_value(pages: &mut Pages, at: usize, width: Width, value: u32)
-    requires { at + width_bytes width ≤ length pages.old }
-    ensures bytes { pages.new ≡ bytes_after pages.old at width value }
-    ensures length { length pages.new ≡ length pages.old }
+    requires inside { at + width_bytes width ≤ length pages.old.bytes }
+    requires there { AreThere pages.old 0 (length pages.old.bytes) }
+    ensures bytes { pages.new.bytes ≡ bytes_after pages.old.bytes at width value }
+    ensures length { length pages.new.bytes ≡ length pages.old.bytes }
+    ensures there { pages.new.there ≡ pages.old.there }
 {
     match width {
         Width::Byte => pages.set(at, (value & 0xff) as u8),
@@ -73,8 +77,11 @@ impl Ram {
         requires { IsRamSize size }
         ensures { IfOk result (λ ram. ram ≡ replicate size 0) }
     {
-        match Pages::new(alloc, size as usize) {
-            Ok(pages) => Ok(Ram { pages }),
+        let Ok(mut pages) = Pages::new(alloc, size as usize) else {
+            return Err(NoMemory);
+        };
+        match pages.reserve(0, size as usize) {
+            Ok(()) => Ok(Ram { pages }),
             Err(_) => Err(NoMemory),
         }
     }
@@ -105,7 +112,7 @@ impl Ram {
         let at = addr.wrapping_sub(BASE) as usize;
         if !addr.is_multiple_of(width_bytes(width)) {
             Err(MemFault::Misaligned)
-        } else if at < self.pages.len() {
+        } else if self.pages.holds(at) {
             Ok(at)
         } else {
             Err(MemFault::Outside)
