@@ -5,17 +5,17 @@
 #include <string.h>
 
 #define BASE 0x80000000u
-#define SIZE 65536u
 #define TURNS 100000000ul
 
 static uint8_t *bytes;
+static uint32_t size;
 
 static int load(uint32_t addr, uint32_t *value)
 {
     uint32_t at = addr - BASE;
     if (addr % 4 != 0)
         return 1;
-    if (at >= SIZE)
+    if (at >= size)
         return 2;
     memcpy(value, bytes + at, 4);
     return 0;
@@ -26,16 +26,18 @@ static int store(uint32_t addr, uint32_t value)
     uint32_t at = addr - BASE;
     if (addr % 4 != 0)
         return 1;
-    if (at >= SIZE)
+    if (at >= size)
         return 2;
     memcpy(bytes + at, &value, 4);
     return 0;
 }
 
-int main(void)
+int main(int argc, char **argv)
 {
+    (void)argv;
+    size = argc == 1 ? 65536 : 131072;
     uint32_t place = 1, sum = 0;
-    bytes = calloc(SIZE, 1);
+    bytes = calloc(size, 1);
     if (!bytes)
         return 1;
     for (unsigned long turn = 0; turn < TURNS; turn++) {

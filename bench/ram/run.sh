@@ -1,5 +1,6 @@
 #!/usr/bin/env bash
-# Times 10^8 word loads and stores of guest_ram against the same loop in C, and prints the ratio.
+# Times 10^8 word loads and stores of guest_ram against the same loop in C, and prints the ratio. Neither program knows the size
+# of RAM before it runs.
 here=$(cd "$(dirname "$0")" && pwd)
 . "$here/../compare.sh"
 
@@ -16,14 +17,17 @@ cat > "$work/crates/bench_ram/src/main.rt" <<'PROGRAM'
 #![tactic(auto)]
 
 use guest_ram::Ram;
+use std::env;
 use tb_base::Width;
 
 const BASE: u32 = 0x8000_0000;
-const SIZE: u32 = 65536;
 const TURNS: u64 = 100_000_000;
 
 fn main(rt: HostRuntime) -> Result<(), anyhow::Error> {
-    let Ok(mut ram) = Ram::new(rt.alloc(), SIZE) else {
+    // The size is not known before the program runs, as it is in an experiment.
+    let words = env::args(&rt)?.skip(1).count();
+    let size = if words == 0 { 65536 } else { 131_072 };
+    let Ok(mut ram) = Ram::new(rt.alloc(), size) else {
         return Ok(());
     };
     let mut place = 1u32;
