@@ -26,8 +26,7 @@ impl Disk {
         ensures coming { (disk_state self.new).coming ≡ now + 1 }
         ensures size { length ram.new ≡ length ram.old }
         ensures front { StaysInFront log.old.items log.new.items }
-        ensures pages { OnOk result (MadeBy (disk_state self.old).sectors (due_in now (in_flight (disk_state self.old).active))
-            self.old.content self.new.content) }
+        ensures pages { OnOk result (MadeBy self.old.sectors (due_in now (in_flight (disk_state self.old).active)) self.old.content self.new.content) }
     {
         self.coming = now + 1;
         match &mut self.active {
