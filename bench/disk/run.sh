@@ -1,9 +1,7 @@
 #!/usr/bin/env bash
 # Times 400,000 requests of 4 KiB of blk_dev, reads and writes in turn, against a C program that copies the same blocks
 # between two arrays through a ring of the same shape (disk.c, gcc -O2), and prints the ratio. Then the same on a disk of 512
-# times as many sectors, whose bytes are zeroed first, and what the requests alone cost there, as a multiple of the first.
-# The first is to stay below 4, the last near 1. On 2026-12-01, on a virtual machine of four x86-64
-# processors (Intel Xeon) with other work: 2.29 with 64 sectors.
+# times as many sectors, whose pages are made as they are written, and what the requests alone cost there, as a multiple of the first.
 here=$(cd "$(dirname "$0")" && pwd)
 . "$here/../compare.sh"
 
