@@ -1,8 +1,7 @@
 #!/usr/bin/env bash
 # Prints how much processor time diecast takes for a virtual tick of a guest with four nics that no frame comes to or leaves, as a
 # multiple of that with one nic. The guest jumps in place. Needs rt. Arguments: ticks (2000) and rate (1000).
-# It is to stay below 1.2. On 2026-12-01, on a virtual machine of four x86-64 processors (Intel Xeon) with
-# other work: 0.92 and 0.95.
+# It is to be at most 1.2.
 set -eu
 ticks=${1:-2000}
 rate=${2:-1000}

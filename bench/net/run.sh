@@ -1,8 +1,6 @@
 #!/usr/bin/env bash
 # Times 800,000 frames that net_dev sends and receives again, of 64 bytes and of 1514, against a C program that moves the
-# same bytes through rings of the same shape (net.c, gcc -O2), and prints the ratios of the wall-clock times:
-# 2.1 and 1.4 when they were last measured, on 2026-12-01 on a virtual machine of four x86-64 processors (Intel Xeon).
-# Each is to stay below 4.
+# same bytes through rings of the same shape (net.c, gcc -O2), and prints the ratios.
 here=$(cd "$(dirname "$0")" && pwd)
 . "$here/../compare.sh"
 
