@@ -4,12 +4,14 @@
 mod assignment;
 mod assignments;
 mod fill;
+mod law;
 mod least;
 mod need;
 mod overload;
 mod placement;
 mod planner;
 
+pub use law::placements_see_no_room;
 pub use least::Least;
 pub use need::{check, least_factor, slot_have, slot_need};
 pub use overload::Overload;

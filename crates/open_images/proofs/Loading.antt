@@ -1,5 +1,5 @@
 -- One image or disk more of a run, or why there is none.
-use Rattle.open_images.proofs.Common.{◌≡◌, ℕ, ◌+◌, ◌<◌, ◌≤◌, List, [], ◌∷◌, ◌++◌, length, get_or, take, Some, IfSome, Err, refl, sym, ap, ◌∙◌, subst, slice_get, AllZip, all_zipped_more, Kind, without_room, DiskSpec, Experiment, GuestSpec, ImageAnswers, DiskAnswers, IsTaken, Fills, IsBuilding, with_image, with_disk, BuildFault, Image, DiskSize, NoMemory, Unopened, FilesSeen, IsRead, IsContent, IsLoaded, IsFilled, image_limit, HasTaken, build_fault}
+use Rattle.open_images.proofs.Common.{◌≡◌, ℕ, ◌+◌, ◌<◌, List, [], ◌∷◌, ◌++◌, length, get_or, take, Some, Err, refl, sym, ap, ◌∙◌, subst, slice_get, AllZip, all_zipped_more, Kind, without_room, DiskSpec, Experiment, GuestSpec, ImageAnswers, DiskAnswers, IsTaken, Fills, IsBuilding, with_image, with_disk, BuildFault, Image, DiskSize, NoMemory, Unopened, FilesSeen, IsRead, IsContent, IsLoaded, IsFilled, image_limit, HasTaken, build_fault}
 use Rattle.std.proofs.lemmas.List.{take_more}
 use Rattle.std.proofs.lemmas.Option.{slice_get_read}
 use Rattle.bench_build.specs.declared.builder.Builder.{Builder}

@@ -1,5 +1,5 @@
 -- What a keeper of each guest's first ticks shows is the text of a view.
-use Rattle.run_views.proofs.Common.{◌≡◌, ◌∙◌, ℕ, zero, suc, ◌<◌, ◌≤◌, ◌/◌, List, [], ◌++◌, length, refl, sym, ap, ap₂, subst, arith, Option, Result, TakesPart, Rec, View, Experiment, Entry, ticks_shown, recs_below, guest_text, guests_text, guests_of, guests_head, texts_below, end_word, name_at, Head, Rules, IsComplete, Inputs, run_rules, IsHead, Shows, RunPuts, ShowsGuests, text, traces_shown}
+use Rattle.run_views.proofs.Common.{◌≡◌, ◌∙◌, ℕ, zero, suc, ◌<◌, ◌≤◌, ◌/◌, List, [], ◌++◌, length, refl, sym, ap, ap₂, subst, arith, Option, Result, TakesPart, Rec, View, Experiment, Entry, ticks_shown, recs_below, guest_text, guests_text, guests_of, guests_head, texts_below, end_word, name_at, Head, Rules, IsComplete, IsHead, Shows, RunPuts, ShowsGuests, text, traces_shown}
 use Rattle.std.proofs.lemmas.List.{length-map}
 use Rattle.tb_io.proofs.Parts.{part_longer}
 use Rattle.tb_io.specs.declared.write_err.WriteErr.{WriteErr}

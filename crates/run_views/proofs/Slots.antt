@@ -1,5 +1,5 @@
 -- Traces and summary are made of the setup, the names and the number of ticks alone.
-use Rattle.run_views.proofs.Common.{◌≡◌, ◌∙◌, ℕ, ◌/◌, List, ◌++◌, sym, ap₂, length, map, codes, Rec, Experiment, ticks_shown, guests_head, guest_text, guests_text, texts_below, end_word, Head, Inputs, setup, run_rules, IsHead, traces_shown}
+use Rattle.run_views.proofs.Common.{◌≡◌, ◌∙◌, ℕ, ◌/◌, List, ◌++◌, sym, ap₂, length, map, codes, Rec, Experiment, guests_head, guest_text, guests_text, texts_below, end_word, Head, Inputs, setup, run_rules, IsHead, traces_shown}
 use Rattle.trace_rec.specs.Lines.{field}
 use Rattle.lookahead_core.specs.Synchronous.{Setup, trace}
 use Rattle.guest_machine.specs.Tick.{MachineState, machine_motion}

@@ -1,3 +1,4 @@
--- Claims: Texts and Runs.
+-- Claims: Texts, Traced and Runs.
 pub mod Runs
 pub mod Texts
+pub mod Traced

@@ -4,5 +4,5 @@
 mod law;
 mod runs;
 
-pub use law::traces_do_not_depend_on_slots;
+pub use law::{complete_runs_are_traced, traces_do_not_depend_on_slots};
 pub use runs::run;

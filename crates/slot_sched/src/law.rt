@@ -18,12 +18,17 @@ use lookahead_core::Node;
 /// up to its last printed count, which is what the units printed pay for. A host tick t is left only
 /// where that count is at least t / factor. Where records name their ticks, those of a guest's first
 /// k ticks in a complete journal are its trace up to k, for each k that all guests are sure to reach.
+/// So do the entries of a complete journal up to the end of any host tick, and that each guest has kept
+/// up by then.
 pub fn journals_tell_traces<N: Node>()
     ensures told { (x : Setup N.State) (p : HostSetup) (es : List Entry) → IsLegal (rules N.motion x p) es → (g : ℕ) → Tells (rules N.motion x p) es g }
     ensures kept_up { (x : Setup N.State) (p : HostSetup) (es : List Entry) (t g : ℕ) → IsLegal (rules N.motion x p) es
         → list_any (is_past t) es ≡ true → t ≤ p.host_ticks → g < x.count → t / p.factor ≤ count_of g (up_to_tick t es) }
     ensures early { (x : Setup N.State) (p : HostSetup) (es : List Entry) (g k : ℕ) → RecordsNameTicks N.motion x → IsComplete (rules N.motion x p) es
         → g < x.count → k ≤ p.host_ticks / p.factor → recs_below k es g ≡ trace N.motion x g k }
+    ensures up_to { (x : Setup N.State) (p : HostSetup) (es : List Entry) (t g : ℕ) → IsComplete (rules N.motion x p) es → Tells (rules N.motion x p) (up_to_tick t es) g }
+    ensures done { (x : Setup N.State) (p : HostSetup) (es : List Entry) (t g : ℕ) → IsComplete (rules N.motion x p) es
+        → t ≤ p.host_ticks → g < x.count → t / p.factor ≤ count_of g (up_to_tick t es) }
 {}
 
 /// In a legal journal, wherever it stopped, each quantum stands in a turn and names its slot. So two

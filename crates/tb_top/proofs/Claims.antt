@@ -1,12 +1,10 @@
 -- What follows from how a command ends.
-use Rattle.tb_top.proofs.Common.{◌≡◌, ◌≢◌, ◌∙◌, ℕ, ◌<◌, ◌≤◌, ◌/◌, ◌⊎◌, true, List, [], length, Option, Some, None, IfSome, Ok, Err, inl, inr, refl, sym, ap, subst, arith, Rose, View, Experiment, MachineState, machine_motion, Fits, IsFirstOverload, placed, Overload, count_of, up_to_tick, IsComplete, Schedule, rules, Inputs, host_setup, run_rules, setup, Suffices, IsShort, Loaded, IsRead, IsTooLong, IsContent, image_limit, disk_limit, OpenFault, IsUnopened, Ends, no_memory, no_experiment, ended, Refuses, IsAsked, TaskEnds, Asks, IsRight, MayRun, IsTold, IsToldOf, IsPartPut, FilesServed, OutServed, Completes, IsPlanned, is_made, Origin, File, Load, Task, Run, Plan, origin_of, task_of, AreFor, IsFrom, Says, experiment_limit, Plans, open_status, World, Quiet, Status, Done, Usage, Refused, Build, TooLong, ReadFault, WriteFault, Memory}
+use Rattle.tb_top.proofs.Common.{◌≡◌, ◌≢◌, ◌∙◌, ℕ, ◌<◌, ◌≤◌, ◌⊎◌, true, List, [], length, Option, Some, None, IfSome, Ok, inl, inr, refl, sym, ap, subst, arith, Rose, View, Experiment, Fits, IsFirstOverload, placed, Overload, up_to_tick, IsComplete, Inputs, run_rules, Suffices, IsShort, Loaded, IsRead, IsTooLong, IsContent, disk_limit, OpenFault, IsUnopened, Ends, no_memory, no_experiment, ended, Refuses, IsAsked, TaskEnds, Asks, IsRight, MayRun, IsTold, IsToldOf, IsPartPut, FilesServed, OutServed, Completes, IsPlanned, is_made, Origin, File, Load, Task, Run, Plan, origin_of, task_of, AreFor, IsFrom, Says, experiment_limit, Plans, open_status, World, Quiet, Status, Done, Usage, Refused, Build, TooLong, ReadFault, WriteFault, Memory}
 use Rattle.tb_io.proofs.Parts.{part_whole}
-use Rattle.lookahead_core.specs.Synchronous.{Setup}
-use Rattle.exp_file.specs.declared.disk_spec.DiskSpec.{DiskSpec}
 use Rattle.dev_face.specs.declared.kind.Kind.{Kind}
 use Rattle.host_journal.specs.Entries.{Entry}
-use Rattle.slot_sched.specs.Told.{Tells}
-use Rattle.bench_build.specs.Answers.{Fills}
+use Rattle.run_views.specs.Traced.{IsTraced}
+use Rattle.bench_build.specs.Answers.{room_of}
 use Rattle.bench_build.specs.declared.build_fault.BuildFault.TheVariants.{Image as ImageFault, DiskSize, NoDevice}
 use Rattle.gen_load.specs.Loads.{ring}
 use Rattle.words_line.specs.Ranges.{IsInRange}
@@ -15,7 +13,7 @@ use Rattle.words_line.specs.declared.command.Command.{Command}
 use Rattle.words_line.specs.declared.command.Command.TheVariants as given
 use Rattle.open_images.specs.declared.file_id.FileId.TheVariants.{Experiment as TheExperiment, Image as ImageOf, Disk as DiskOf}
 use Rattle.open_images.specs.declared.open_fault.OpenFault.TheVariants as open_is
-use Rattle.tb_top.specs.Headline.{IsUndisturbed, IsJudged, IsTraced, IsPrinted, Headline}
+use Rattle.tb_top.specs.Headline.{IsUndisturbed, IsJudged, IsPrinted, Headline}
 use Rattle.tb_top.specs.declared.status.Status.TheVariants.{Overload as Over}
 
 -- What the laws of the crates below say.
@@ -25,16 +23,12 @@ AreInRange = (words : List (List ℕ)) (c : Command) → command words ≡ Ok c 
 pub record Laws : Type 0 where
   pub ranges : AreInRange
   pub fits : (n : ℕ) → n ≤ 32 → Fits (ring n) (placed (ring n))
-  pub told : (x : Setup MachineState) (p : Schedule) (es : List Entry) (t g : ℕ) → IsComplete (rules machine_motion x p) es → Tells (rules machine_motion x p) (up_to_tick t es) g
-  pub kept_up : (x : Setup MachineState) (p : Schedule) (es : List Entry) (t g : ℕ) → IsComplete (rules machine_motion x p) es → t ≤ p.host_ticks → g < x.count
-      → t / p.factor ≤ count_of g (up_to_tick t es)
+  pub traced : (e : Experiment) (slots : List ℕ) (i : Inputs) (n : ℕ) (es : List Entry) → IsComplete (run_rules e slots i n) es → (t : ℕ) → t ≤ n
+      → (g : ℕ) → g < length e.guests.items → IsTraced e i t g (up_to_tick t es)
 
 -- a load has 2 to 32 guests
 few : (c : Command) (n : ℕ) → IsInRange c → origin_of c ≡ Load n → (2 ≤ n) × (n ≤ 32)
-few (given.Gen m t) n h same =
-    let load : Load m ≡ Load n = same in
-    let e : m ≡ n = cc load in
-    subst (λ k. (2 ≤ k) × (k ≤ 32)) e (h.0, h.1)
+few (given.Gen m t) n h same = let load : Load m ≡ Load n = same in let e : m ≡ n = cc load in subst (λ k. (2 ≤ k) × (k ≤ 32)) e (h.0, h.1)
 few (given.Run file t view) n h same = let no : File file ≡ Load n = same in absurd (cc no)
 few (given.Plan file) n h same = let no : File file ≡ Load n = same in absurd (cc no)
 
@@ -103,10 +97,10 @@ IsHurt w s = (IsUndisturbed s → ⊥) × (FilesServed w → OutServed w → s �
 no_overload : (e : Experiment) (p : List ℕ) (o : Overload) → Fits e p → IsFirstOverload e p o → ⊥
 no_overload e p o fits over = omega (arith, fits o.slot over.slot, over.needs, over.has, over.over)
 
-content_fills : (held : List ℕ → Option (List ℕ)) (d : DiskSpec) (o : Option (List ℕ)) (b : List ℕ)
-    → ((name : List ℕ) → o ≡ Some name → IsTold (held name) disk_limit (Fills d)) → IsContent held o b → Fills d b
-content_fills held d None b told read = omega (arith, ap length read)
-content_fills held d (Some name) b told read = read_told (held name) disk_limit (Fills d) b (told name refl) read
+content_has : (held : List ℕ → Option (List ℕ)) (P : List ℕ → Type 0) (o : Option (List ℕ)) (b : List ℕ) → ((name : List ℕ) → o ≡ Some name → IsTold (held name) disk_limit P) → P []
+    → IsContent held o b → P b
+content_has held P None b told none read = subst P (sym read) none
+content_has held P (Some name) b told none read = read_told (held name) disk_limit P b (told name refl) read
 
 -- what its bench is opened with is right, but where a file failed
 module _ (w : World) (e : Experiment) (enough : Suffices e w.stock) where
@@ -124,7 +118,7 @@ module _ (w : World) (e : Experiment) (enough : Suffices e w.stock) where
       let bad = k.why.holds in
       absurd (cc (taken_is, bad))
   unopened (File name) right (open_is.Build (DiskSize j len room)) k =
-      let fills = content_fills w.files.held k.thing k.thing.image k.why.bytes (λ name. right.disks j k.thing name k.at) k.why.read in
+      let fills = content_has w.files.held (λ z. length z ≤ room_of k.thing) k.thing.image k.why.bytes (λ name. right.disks j k.thing name k.at) (omega arith) k.why.read in
       absurd (omega (arith, fills, k.why.len_is, k.why.room_is, k.why.over))
   unopened (File name) right (open_is.TooLong (ImageOf i)) k = absurd (not_too_long (w.files.held k.thing.image) _ _ (right.images i k.thing k.at) k.why)
   unopened (File name) right (open_is.TooLong (DiskOf j)) k = absurd (not_too_long (w.files.held k.why.0) _ _ (right.disks j k.thing k.why.0 k.at k.why.1) k.why.2)
@@ -179,19 +173,11 @@ judged w o t e (ReadFault f) h calm = absurd calm
 judged w o (Run n view) e (Build f) h calm = record { accepted = λ fit p same. cc same; refused = λ over. absurd (over h.1) }
 judged w o t e s h calm = absurd h
 
--- What a complete journal tells of a guest up to the end of a host tick.
-traced : Laws → (e : Experiment) (i : Inputs) (n : ℕ) (j : List Entry) → IsComplete (run_rules e (placed e) i n) j → (t : ℕ) → t ≤ n → (g : ℕ) → g < length e.guests.items
-    → IsTraced e i t g (up_to_tick t j)
-traced laws e i n j complete t few g lt =
-    let p = host_setup e (placed e) n in
-    let told = laws.told (setup e i) p j t g complete in
-    let far = laws.kept_up (setup e i) p j t g complete few lt in
-    record { virtual_tick = count_of g (up_to_tick t j); records = told.records; far_enough = far; counted = refl; paid = told.clock }
-
+-- What a run that is done has printed.
 printed : Laws → (w : World) (o : Origin) (n : ℕ) (view : View) (e : Experiment) → TaskEnds w o (Run n view) e Done → IsPrinted w o n view e
 printed laws w o n view e (fits, run) =
     let (head, head_is, (journal, complete, taken)) = run.holds in
-    record { inputs = run.inputs; loaded = run.loaded; head = head; head_is = head_is; journal = journal; taken = taken; schedule = complete; traces = traced laws e run.inputs n journal complete }
+    record { inputs = run.inputs; loaded = run.loaded; head = head; head_is = head_is; journal = journal; taken = taken; schedule = complete; traces = laws.traced e (placed e) run.inputs n journal complete }
 
 -- What was put where memory or the output failed.
 cut_short : {w : World} {s : Status} → Ends w s → (s ≡ Memory) ⊎ (s ≡ WriteFault) → Quiet w ⊎ IsPartPut w

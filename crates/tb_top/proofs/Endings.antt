@@ -1,5 +1,5 @@
 -- How the stages of a command end it.
-use Rattle.tb_top.proofs.Common.{◌≡◌, ℕ, List, Option, Result, Ok, Err, inl, inr, refl, sym, subst, WriteCause, View, Experiment, without_room, Fits, IsFirstOverload, placed, Over, Inputs, Suffices, OpenFault, IsUnopened, Ends, no_memory, no_experiment, ended, Refuses, IsAsked, Origin, Run, Plan, AreInputs, Plans, OrMemory, open_status, run_status, World, Quiet, Status, Done, WriteFault, Memory}
+use Rattle.tb_top.proofs.Common.{ℕ, List, Option, Result, Ok, Err, inl, inr, refl, sym, subst, WriteCause, View, Experiment, without_room, Fits, IsFirstOverload, placed, Over, Inputs, Suffices, OpenFault, IsUnopened, Ends, no_memory, no_experiment, ended, Refuses, IsAsked, Origin, Run, Plan, AreInputs, Plans, OrMemory, open_status, run_status, World, Quiet, Status, Done, WriteFault, Memory}
 use Rattle.tb_io.specs.declared.write_err.WriteErr.{WriteErr}
 use Rattle.tb_io.specs.declared.write_err.WriteErr.TheVariants as write
 use Rattle.plan_text.specs.Puts.{PutsPlan, PutsPlanPart}
@@ -12,21 +12,17 @@ pub unasked : {w : World} (s : Status) → Quiet w → OrMemory (Refuses w.words
 unasked Memory quiet h = no_memory quiet
 unasked s quiet h = no_experiment quiet h
 
--- what the laws of the crates below say of the room of lists
-pub record NeedsNoRoom : Type 0 where
-  pub placed_so : (e : Experiment) → placed e ≡ placed (without_room e)
-  pub over : (e : Experiment) (p : List ℕ) (o : Over) → IsFirstOverload e p o → IsFirstOverload (without_room e) p o
-  pub whole : (e : Experiment) (p : List ℕ) (old new : Option (List ℕ)) → PutsPlan e p old new → PutsPlan (without_room e) p old new
-  pub part : (e : Experiment) (p : List ℕ) (old new : Option (List ℕ)) → PutsPlanPart e p old new → PutsPlanPart (without_room e) p old new
-
--- the plan of an experiment was asked for
-module _ {w : World} (room : NeedsNoRoom) (o : Origin) (e : Experiment) (asked : IsAsked w.words w.files.held o Plan (without_room e)) where
+-- the plan of an experiment was asked for, and the room of lists is none of what is said of it
+module _ (over : (e : Experiment) (p : List ℕ) (o : Over) → IsFirstOverload e p o → IsFirstOverload (without_room e) p o)
+    (whole : (e : Experiment) (p : List ℕ) (old new : Option (List ℕ)) → PutsPlan e p old new → PutsPlan (without_room e) p old new)
+    (part : (e : Experiment) (p : List ℕ) (old new : Option (List ℕ)) → PutsPlanPart e p old new → PutsPlanPart (without_room e) p old new)
+    {w : World} (o : Origin) (e : Experiment) (asked : IsAsked w.words w.files.held o Plan (without_room e)) where
   pub plan_ends : (s : Status) → Plans e (placed (without_room e)) w.out w.out_after s → Ends w s
   plan_ends Memory (inl quiet) = no_memory quiet
-  plan_ends Memory (inr part) = ended o Plan _ asked (room.part e _ w.out.taken w.out_after.taken part)
-  plan_ends Done (fits, puts) = ended o Plan _ asked (fits, room.whole e _ w.out.taken w.out_after.taken puts)
-  plan_ends (Overload slot need have) (over, puts) = ended o Plan _ asked (room.over e _ _ over, room.whole e _ w.out.taken w.out_after.taken puts)
-  plan_ends WriteFault (rose, part) = ended o Plan _ asked (rose, room.part e _ w.out.taken w.out_after.taken part)
+  plan_ends Memory (inr puts) = ended o Plan _ asked (part e _ w.out.taken w.out_after.taken puts)
+  plan_ends Done (fits, puts) = ended o Plan _ asked (fits, whole e _ w.out.taken w.out_after.taken puts)
+  plan_ends (Overload slot need have) (first, puts) = ended o Plan _ asked (over e _ _ first, whole e _ w.out.taken w.out_after.taken puts)
+  plan_ends WriteFault (rose, puts) = ended o Plan _ asked (rose, part e _ w.out.taken w.out_after.taken puts)
   plan_ends _ h = absurd h
 
 -- a run that fits was asked for, and its bench was not opened, or run

@@ -1,27 +1,26 @@
 -- The promise of the testbed. For every experiment file, the placement is accepted exactly where each slot's shares fit its capacity times the factor. After
 -- every host tick t of an accepted run, unless memory, a file or the output failed, each guest's printed trace is its trace in the undilated synchronous system
 -- up to some virtual tick, at least t / factor rounded down. The printed schedule is legal.
-use Rattle.std.specs.Prelude.{◌≡◌, ◌≢◌, ℕ, ◌/◌, ◌<◌, ◌≤◌, ◌⊎◌, List, length}
+use Rattle.std.specs.Prelude.{◌≡◌, ◌≢◌, ℕ, ◌<◌, ◌≤◌, ◌⊎◌, List, length}
 use Rattle.tb_io.specs.Puts.{Takes}
 use Rattle.trace_rec.specs.declared.view.View.{View}
 use Rattle.exp_file.specs.declared.experiment.Experiment.{Experiment}
 use Rattle.host_plan.specs.Fits.{Fits, IsFirstOverload}
 use Rattle.host_plan.specs.Placing.{placed}
 use Rattle.host_plan.specs.declared.overload.Overload.{Overload as Over}
-use Rattle.lookahead_core.specs.Synchronous.{trace, ticks_by}
-use Rattle.guest_machine.specs.Tick.{machine_motion}
 use Rattle.host_journal.specs.Entries.{Entry}
-use Rattle.host_journal.specs.Printed.{recs_of, units_of, count_of, up_to_tick}
+use Rattle.host_journal.specs.Printed.{up_to_tick}
 use Rattle.host_journal.specs.declared.head.Head.{Head}
 use Rattle.slot_sched.specs.Legal.{IsComplete}
 use Rattle.bench_build.specs.Inputs.{Inputs}
-use Rattle.bench_build.specs.Setups.{setup, run_rules}
+use Rattle.bench_build.specs.Setups.{run_rules}
 use Rattle.bench_build.specs.Stocks.{Suffices}
 use Rattle.tb_top.specs.Ends.{Asks, MayRun, IsPartPut}
 use Rattle.tb_top.specs.Origins.{Origin, Task, Run, AreInputs}
 use Rattle.run_views.specs.Runs.{IsHead}
 use Rattle.tb_top.specs.Statuses.{over_status}
 use Rattle.run_views.specs.Texts.{text}
+use Rattle.run_views.specs.Traced.{IsTraced}
 use Rattle.tb_top.specs.World.{World, Quiet}
 use Rattle.tb_top.specs.declared.status.Status.{Status}
 use Rattle.tb_top.specs.declared.status.Status.TheVariants.{Done, TooLong, ReadFault, WriteFault, Memory}
@@ -38,15 +37,6 @@ IsUndisturbed _ = Unit {0}
 pub record IsJudged (e : Experiment) (s : Status) : Type 0 where
   pub accepted : Fits e (placed e) → (o : Over) → s ≡ over_status o → ⊥
   pub refused : ¬ Fits e (placed e) → (o : Over) × IsFirstOverload e (placed e) o × (s ≡ over_status o)
-
--- the records that some entries print of guest g are its trace in the synchronous system up to some virtual tick, at least t / factor. It is the count that was
--- printed last of the guest, and what the units printed of it pay for, so the entries fix it
-pub record IsTraced (e : Experiment) (i : Inputs) (t g : ℕ) (es : List Entry) : Type 0 where
-  pub virtual_tick : ℕ
-  pub records : recs_of g es ≡ trace machine_motion (setup e i) g virtual_tick
-  pub far_enough : t / e.factor ≤ virtual_tick
-  pub counted : virtual_tick ≡ count_of g es
-  pub paid : virtual_tick ≡ ticks_by machine_motion (setup e i) g (units_of g es)
 
 -- of a run of n host ticks, out has taken the text of a journal in this view. Its schedule is legal and comes to its end, and after every host tick each guest
 -- is traced

@@ -12,7 +12,7 @@ ghost use Rattle.tb_top.specs.World.{World, Quiet, sink_seen};
 
 use crate::status::{Status, over_status};
 use exp_file::Experiment;
-use host_plan::{Placement, check, place};
+use host_plan::{Placement, check, place, placements_see_no_room};
 use plan_text::put_plan;
 use std::alloc::Global;
 use tb_io::{Sink, WriteErr};
@@ -26,6 +26,7 @@ pub(crate) fn fitting(alloc: Global, e: &Experiment) -> Result<Placement, Status
     ensures refused { IfErr result (λ s. (w : World) (o : Origin) (n : ℕ) (view : View) →
         IsAsked w.words w.files.held o (Run n view) (without_room e.now) → Quiet w → Ends w s) }
 {
+    placements_see_no_room();
     let placement = match place(alloc, e) {
         Ok(placement) => placement,
         Err(_) => return Err(Status::Memory),

@@ -13,8 +13,9 @@ use crate::placing::{fitting, put_placed};
 use crate::status::{Status, open_status, run_status};
 use dev_face::Device;
 use gen_load::{GenErr, generate};
-use host_plan::place;
+use host_plan::{place, placements_see_no_room};
 use open_images::{loads_are_taken, open_files, open_load};
+use plan_text::plans_see_no_room;
 use run_views::run;
 use std::alloc::Global;
 use tb_io::{Files, Sink};
@@ -31,6 +32,8 @@ pub(crate) fn plan_file<F: Files, O: Sink>(
         Ends (world words F.Files files.old files.new O.Sink out.old out.new had) result }
     ensures unfailed { result ≢ Status.WriteFault → O.faults out.new ≡ O.faults out.old }
 {
+    placements_see_no_room();
+    plans_see_no_room();
     let experiment = match read_file(alloc, files, name) {
         Ok(experiment) => experiment,
         Err(status) => return status,

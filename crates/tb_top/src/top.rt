@@ -12,6 +12,7 @@ use crate::tasks::{plan_file, run_file, run_load};
 use bench_build::Stock;
 use dev_face::Device;
 use gen_load::loads_are_right;
+use run_views::complete_runs_are_traced;
 use std::alloc::Global;
 use tb_io::{Files, Sink};
 use words_line::{Command, WordsErr, commands_are_in_range, read_words};
@@ -61,6 +62,7 @@ pub fn diecast<F: Files, O: Sink, M: Sink>(
     } = stock;
     commands_are_in_range();
     loads_are_right();
+    complete_runs_are_traced::<Box<dyn Device>>();
     let status = work(alloc, words, files, out, [clints, uarts, blks, nets]);
     tell(alloc, status, msg)
 }

@@ -1,6 +1,5 @@
 -- All that is said of a command follows from how it ends.
-use Rattle.tb_top.proofs.Common.{refl, machine_motion, start, rules, up_to_tick, Ends, World, sizes, texts, world}
-use Rattle.slot_sched.proofs.Telling.{tells, kept_up, legal_up_to, past_complete}
+use Rattle.tb_top.proofs.Common.{Ends, World, sizes, texts, world}
 use Rattle.tb_top.proofs.Claims.{Laws, completes, ends_told, headline, planned, unfailed_told}
 use Rattle.tb_top.proofs.top.diecast.Goals as goal
 
@@ -9,12 +8,7 @@ returns g c =
     let w : World = world (texts c.args.words.now) g.F.Files c.args.files.now c.work-status.new.files g.O.Sink c.args.out.now c.work-status.new.out (sizes c.args.stock) in
     let ends : Ends w c.tell.result = ends_told {w = w} c.work-status.ensures.ends c.tell.ensures.status in
     let unfailed = unfailed_told c.work-status.ensures.unfailed c.tell.ensures.status in
-    let laws : Laws = record {
-      ranges = c.commands_are_in_range.ensures.ranges;
-      fits = c.loads_are_right.ensures.fits;
-      told = λ x p es t i complete. let r = rules machine_motion x p in tells r (up_to_tick t es) i (record { ticks = refl; trace = refl }) (legal_up_to r es start t complete.legal);
-      kept_up = λ x p es t i complete few lt. let r = rules machine_motion x p in kept_up r es t i (record { ticks = refl; trace = refl }) complete.legal (past_complete r es t complete) few lt;
-    } in
+    let laws : Laws = record { ranges = c.commands_are_in_range.ensures.ranges; fits = c.loads_are_right.ensures.fits; traced = c.complete_runs_are_traced.ensures.traced } in
     record {
       ends = ends;
       headline = headline {w = w} laws ends unfailed;
