@@ -17,13 +17,15 @@ riscv64-unknown-elf-objcopy -O binary -j .text "$work/writes.elf" "$work/writes.
     for ((d = 0; d < 64; d++)); do printf '[[disk]]\nguest = "g%s"\nsectors = 32768\nbase = 1\n' "$((d / 2))"; done
 } > "$work/disks.toml"
 
-# guests on one slot that jump in place, at rate 1, with as much capacity as there are guests
+# guests on one slot that jump in place, with as much capacity as they take
 image jump.bin 0000006f
-for guests in 2 32; do
-    {
-        printf 'version = 1\nfactor = 1\n[[slot]]\ncapacity = %s\n' "$guests"
-        for ((g = 0; g < guests; g++)); do printf '[[guest]]\nname = "g%s"\nimage = "jump.bin"\nformat = "flat"\nram = 4096\nrate = 1\n' "$g"; done
-    } > "$work/slot$guests.toml"
+for rate in 1 10; do
+    for guests in 2 32; do
+        {
+            printf 'version = 1\nfactor = 1\n[[slot]]\ncapacity = %s\n' "$((guests * rate))"
+            for ((g = 0; g < guests; g++)); do printf '[[guest]]\nname = "g%s"\nimage = "jump.bin"\nformat = "flat"\nram = 4096\nrate = %s\n' "$g" "$rate"; done
+        } > "$work/slot$guests.$rate.toml"
+    done
 done
 
 build_diecast
@@ -39,6 +41,8 @@ mib=$(awk "BEGIN { printf \"%.1f\", $peak / 1024 }")
 goal "32 guests with 64 disks: MiB of memory, of 21 for what is there" "$mib" 31.5
 goal "32 guests with 64 disks: processor time in ms" "$(awk "BEGIN { printf \"%.1f\", $least / 1000 }")" 50
 
-best "$diecast" run slot2.toml --host-ticks 320000 --view summary; two=$least
-best "$diecast" run slot32.toml --host-ticks 20000 --view summary
-goal "a quantum of 32 guests on a slot, by one of 2" "$(ratio "$least" "$two")" 1.3
+for rate in 1 10; do
+    best "$diecast" run "slot2.$rate.toml" --host-ticks 320000 --view summary; two=$least
+    best "$diecast" run "slot32.$rate.toml" --host-ticks 20000 --view summary
+    goal "a quantum of 32 guests on a slot, by one of 2, at rate $rate" "$(ratio "$least" "$two")" 1.3
+done
