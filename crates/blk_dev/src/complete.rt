@@ -1,5 +1,5 @@
 //! How a request completes.
-ghost use Rattle.std.specs.Prelude.{◌≡◌, ℕ, ◌+◌, ◌*◌, ◌/◌, ◌%◌, ◌≤◌, ◌<◌, ◌^◌, ◌⊎◌, [], ◌∷◌, OnOk, true, length, slice_range};
+ghost use Rattle.std.specs.Prelude.{◌≡◌, ℕ, ◌+◌, ◌*◌, ◌≤◌, ◌<◌, ◌^◌, ◌⊎◌, [], ◌∷◌, OnOk, true, length, slice_range};
 ghost use Rattle.byte_pages.specs.LittleEndian.{with_bytes};
 ghost use Rattle.byte_pages.specs.Pages.{is_there, AreThere, IsTouched};
 ghost use Rattle.split_queue.specs.Streams.{stream, stream_len, written, RangesIn, ChainIn};
@@ -17,66 +17,95 @@ use split_queue::{Chain, SplitQueue};
 use tb_base::NoMemory;
 use virtio_regs::Regs;
 
-/// Moves so many sectors of the disk to the chain, one at a time.
-fn read_sectors(chain: &Chain, sector: u64, count: u64, content: &Pages, ram: &mut Ram)
+/// Moves `len` bytes of the disk from a place on to the chain, as many at a time as the buffer has.
+fn read_pieces(chain: &Chain, at: u64, len: u64, content: &Pages, ram: &mut Ram, buffer: &mut [u8])
     requires ranges { RangesIn ram.old chain.now.writable }
-    requires room { 512 * count ≤ stream_len chain.now.writable }
-    requires small { sector + count < 2 ^ 32 }
-    requires inside { 512 * (sector + count) ≤ length content.now.bytes }
-    ensures ram { ram.new ≡ written ram.old chain.now.writable 0 (slice_range content.now.bytes (512 * sector) (512 * (sector + count))) }
+    requires room { len ≤ stream_len chain.now.writable }
+    requires small { length content.now.bytes ≤ 2 ^ 32 }
+    requires inside { at + len ≤ length content.now.bytes }
+    requires some { 0 < length buffer.old }
+    ensures ram { ram.new ≡ written ram.old chain.now.writable 0 (slice_range content.now.bytes at (at + len)) }
     ensures size { length ram.new ≡ length ram.old }
 {
-    let mut bytes = [0; 512];
-    'sectors: for moved in 0..count {
-        content.read_into((SECTOR * (sector + moved)) as usize, &mut bytes);
-        chain.write_at(ram, SECTOR * moved, &bytes);
+    let mut done = 0;
+    'pieces: while done < len {
+        let count = (len - done).min(buffer.len() as u64);
+        let piece = &mut buffer[..count as usize];
+        content.read_into((at + done) as usize, piece);
+        chain.write_at(ram, done, piece);
+        done += count;
     }
 }
 
-/// Moves so many sectors from behind the header of the chain to the disk, one at a time.
-fn write_sectors(chain: &Chain, sector: u64, count: u64, content: &mut Pages, ram: &Ram)
+/// Moves `len` bytes from behind the header of the chain to the disk, from a place on, as many at a time as the buffer has.
+fn write_pieces(chain: &Chain, at: u64, len: u64, content: &mut Pages, ram: &Ram, buffer: &mut [u8])
     requires ranges { RangesIn ram.now chain.now.readable }
-    requires room { 16 + 512 * count ≤ stream_len chain.now.readable }
-    requires small { sector + count < 2 ^ 32 }
-    requires inside { 512 * (sector + count) ≤ length content.old.bytes }
-    requires there { AreThere content.old (512 * sector) (512 * count) }
-    ensures bytes { content.new.bytes ≡
-        with_bytes content.old.bytes (512 * sector) (slice_range (stream ram.now chain.now.readable) 16 (16 + 512 * count)) }
+    requires room { 16 + len ≤ stream_len chain.now.readable }
+    requires small { length content.old.bytes ≤ 2 ^ 32 }
+    requires inside { at + len ≤ length content.old.bytes }
+    requires there { AreThere content.old at len }
+    requires some { 0 < length buffer.old }
+    ensures bytes { content.new.bytes ≡ with_bytes content.old.bytes at (slice_range (stream ram.now chain.now.readable) 16 (16 + len)) }
     ensures there { content.new.there ≡ content.old.there }
     ensures size { length content.new.bytes ≡ length content.old.bytes }
 {
-    let mut bytes = [0; 512];
-    'sectors: for moved in 0..count {
-        chain.read_at(ram, HEADER + SECTOR * moved, &mut bytes);
-        content.write_from((SECTOR * (sector + moved)) as usize, &bytes);
+    let mut done = 0;
+    'pieces: while done < len {
+        let count = (len - done).min(buffer.len() as u64);
+        let piece = &mut buffer[..count as usize];
+        chain.read_at(ram, HEADER + done, piece);
+        content.write_from((at + done) as usize, piece);
+        done += count;
     }
 }
 
-/// Makes the pages that so many sectors stand on, and then moves the data behind the header of the chain to them.
+/// Moves `len` bytes of the disk from a place on to the chain. A buffer is filled with zeros before it is used, so one sector
+/// has a small one, and more have one of a page.
+fn read_data(chain: &Chain, at: u64, len: u64, content: &Pages, ram: &mut Ram)
+    requires ranges { RangesIn ram.old chain.now.writable }
+    requires room { len ≤ stream_len chain.now.writable }
+    requires small { length content.now.bytes ≤ 2 ^ 32 }
+    requires inside { at + len ≤ length content.now.bytes }
+    ensures ram { ram.new ≡ written ram.old chain.now.writable 0 (slice_range content.now.bytes at (at + len)) }
+    ensures size { length ram.new ≡ length ram.old }
+{
+    if len <= SECTOR {
+        read_pieces(chain, at, len, content, ram, &mut [0; 512]);
+    } else {
+        read_pieces(chain, at, len, content, ram, &mut [0; 4096]);
+    }
+}
+
+/// Makes the pages that `len` bytes from a place on stand on, and then moves the data behind the header of the chain to them,
+/// through a buffer as a read does.
 fn write_data(
     chain: &Chain,
-    sector: u64,
-    count: u64,
+    at: u64,
+    len: u64,
     content: &mut Pages,
     ram: &Ram,
 ) -> Result<(), NoMemory>
     requires ranges { RangesIn ram.now chain.now.readable }
-    requires room { 16 + 512 * count ≤ stream_len chain.now.readable }
-    requires small { sector + count < 2 ^ 32 }
-    requires inside { 512 * (sector + count) ≤ length content.old.bytes }
+    requires room { 16 + len ≤ stream_len chain.now.readable }
+    requires small { length content.old.bytes ≤ 2 ^ 32 }
+    requires inside { at + len ≤ length content.old.bytes }
     ensures bytes { OnOk result (content.new.bytes ≡
-        with_bytes content.old.bytes (512 * sector) (slice_range (stream ram.now chain.now.readable) 16 (16 + 512 * count))) }
+        with_bytes content.old.bytes at (slice_range (stream ram.now chain.now.readable) 16 (16 + len))) }
     ensures size { length content.new.bytes ≡ length content.old.bytes }
-    ensures there { OnOk result (AreThere content.new (512 * sector) (512 * count)) }
+    ensures there { OnOk result (AreThere content.new at len) }
     ensures stay { (i : ℕ) → is_there content.old i ≡ true → is_there content.new i ≡ true }
-    ensures others { (i : ℕ) → is_there content.new i ≡ true → (is_there content.old i ≡ true) ⊎ IsTouched (512 * sector) (512 * count) i }
+    ensures others { (i : ℕ) → is_there content.new i ≡ true → (is_there content.old i ≡ true) ⊎ IsTouched at len i }
     ensures count { length content.new.there ≡ length content.old.there }
 {
-    match content.reserve((SECTOR * sector) as usize, (SECTOR * count) as usize) {
+    match content.reserve(at as usize, len as usize) {
         Ok(()) => (),
         Err(_) => return Err(NoMemory),
     }
-    write_sectors(chain, sector, count, content, ram);
+    if len <= SECTOR {
+        write_pieces(chain, at, len, content, ram, &mut [0; 512]);
+    } else {
+        write_pieces(chain, at, len, content, ram, &mut [0; 4096]);
+    }
     Ok(())
 }
 
@@ -90,9 +119,8 @@ fn move_data(
 ) -> Result<(), NoMemory>
     requires ranges { ChainIn ram.old flight.now.chain }
     requires len { len ≡ data_len flight.now.kind flight.now.chain }
-    requires whole { good ≡ true → len % 512 ≡ 0 }
-    requires small { good ≡ true → flight.now.sector + len / 512 < 2 ^ 32 }
-    requires inside { good ≡ true → 512 * (flight.now.sector + len / 512) ≤ length content.old.bytes }
+    requires small { length content.old.bytes ≤ 2 ^ 32 }
+    requires inside { good ≡ true → 512 * flight.now.sector + len ≤ length content.old.bytes }
     ensures ram { OnOk result (ram.new ≡ ram_moved len good content.old.bytes ram.old flight.now) }
     ensures content { OnOk result (content.new.bytes ≡ content_moved len good content.old.bytes ram.old flight.now) }
     ensures size { length ram.new ≡ length ram.old }
@@ -106,10 +134,11 @@ fn move_data(
     if !good {
         return Ok(());
     }
+    let at = SECTOR * flight.sector;
     if flight.kind == READ {
-        read_sectors(&flight.chain, flight.sector, len / SECTOR, content, ram);
+        read_data(&flight.chain, at, len, content, ram);
     } else if flight.kind == WRITE {
-        write_data(&flight.chain, flight.sector, len / SECTOR, content, ram)?;
+        write_data(&flight.chain, at, len, content, ram)?;
     }
     Ok(())
 }
