@@ -93,7 +93,8 @@ fn load_disk<F: Files>(
     ensures taken { OnOk result ((slots : List ℕ) → HasTaken (files_seen F.Files files.old) e.now.guests.items (take disk e.now.disks.items)
         e.now slots builder.old → HasTaken (files_seen F.Files files.new) e.now.guests.items (take (disk + 1) e.now.disks.items) e.now slots builder.new) }
     ensures missed { IfErr result (λ f. (slots : List ℕ) (had : Kind → ℕ) →
-        HasTaken (files_seen F.Files files.old) e.now.guests.items (take disk e.now.disks.items) e.now slots builder.old → Unopened (files_seen F.Files files.old) (files_seen F.Files files.new) had (without_room e.now) f) }
+        HasTaken (files_seen F.Files files.old) e.now.guests.items (take disk e.now.disks.items) e.now slots builder.old →
+        Unopened (files_seen F.Files files.old) (files_seen F.Files files.new) had (without_room e.now) f) }
     ensures same { OnOk result (files_seen F.Files files.new ≡ files_seen F.Files files.old) }
     ensures images_wanted { images_wanted builder.new ≡ images_wanted builder.old }
     ensures disks_wanted { disks_wanted builder.new ≡ disks_wanted builder.old }

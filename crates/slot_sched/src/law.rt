@@ -26,7 +26,8 @@ pub fn journals_tell_traces<N: Node>()
         → list_any (is_past t) es ≡ true → t ≤ p.host_ticks → g < x.count → t / p.factor ≤ count_of g (up_to_tick t es) }
     ensures early { (x : Setup N.State) (p : HostSetup) (es : List Entry) (g k : ℕ) → RecordsNameTicks N.motion x → IsComplete (rules N.motion x p) es
         → g < x.count → k ≤ p.host_ticks / p.factor → recs_below k es g ≡ trace N.motion x g k }
-    ensures up_to { (x : Setup N.State) (p : HostSetup) (es : List Entry) (t g : ℕ) → IsComplete (rules N.motion x p) es → Tells (rules N.motion x p) (up_to_tick t es) g }
+    ensures up_to { (x : Setup N.State) (p : HostSetup) (es : List Entry) (t g : ℕ) → IsComplete (rules N.motion x p) es
+        → Tells (rules N.motion x p) (up_to_tick t es) g }
     ensures done { (x : Setup N.State) (p : HostSetup) (es : List Entry) (t g : ℕ) → IsComplete (rules N.motion x p) es
         → t ≤ p.host_ticks → g < x.count → t / p.factor ≤ count_of g (up_to_tick t es) }
 {}

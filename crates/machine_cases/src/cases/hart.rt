@@ -25,7 +25,14 @@ impl Bus for RamBus {
 
     ghost bus_state = { λ b. (b.ram, b.lines, b.stopped) };
 
-    ghost bus = { record { fetched = λ s pc. ram_load s.0 pc Word; loaded = λ s addr width. ram_load s.0 addr width; stored = λ s addr width v. at_index (index_of s.0 addr width) (λ at. (bytes_after s.0 at width v, s.1, s.2)); lines_of = λ s. s.1; now_of = λ s. 0; is_stopped = λ s. s.2 } };
+    ghost bus = { record {
+      fetched = λ s pc. ram_load s.0 pc Word;
+      loaded = λ s addr width. ram_load s.0 addr width;
+      stored = λ s addr width v. at_index (index_of s.0 addr width) (λ at. (bytes_after s.0 at width v, s.1, s.2));
+      lines_of = λ s. s.1;
+      now_of = λ s. 0;
+      is_stopped = λ s. s.2;
+    } };
 
     ghost ready = { λ _. Unit {0} };
 
