@@ -1,5 +1,5 @@
 //! The line of a status.
-ghost use Rattle.std.specs.Prelude.{◌≡◌, ◌++◌, ◌⊎◌, ℕ, map, take, IfOk, OnOk, true};
+ghost use Rattle.std.specs.Prelude.{◌≡◌, ◌++◌, ◌⊎◌, IfOk, OnOk, true};
 ghost use Rattle.tb_top.specs.Lines.{file_words, fault_words, build_words, image_words, size_words, header_words, shown_key, shown_byte};
 ghost use Rattle.tb_top.specs.Lines.{status_line, is_made, SaysLine, Told};
 
