@@ -1,6 +1,5 @@
 -- What follows from how a command ends.
-use Rattle.tb_top.proofs.Common.{◌≡◌, ◌≢◌, ◌∙◌, ℕ, ◌<◌, ◌≤◌, ◌⊎◌, true, List, [], length, Option, Some, None, IfSome, Ok, inl, inr, refl, sym, ap, subst, arith, Rose, View, Experiment, Fits, IsFirstOverload, placed, Overload, up_to_tick, IsComplete, Inputs, run_rules, Suffices, IsShort, Loaded, IsRead, IsTooLong, IsContent, disk_limit, OpenFault, IsUnopened, Ends, no_memory, no_experiment, ended, Refuses, IsAsked, TaskEnds, Asks, IsRight, MayRun, IsTold, IsToldOf, IsPartPut, FilesServed, OutServed, Completes, IsPlanned, is_made, Origin, File, Load, Task, Run, Plan, origin_of, task_of, AreFor, IsFrom, Says, experiment_limit, Plans, open_status, World, Quiet, Status, Done, Usage, Refused, Build, TooLong, ReadFault, WriteFault, Memory}
-use Rattle.tb_io.proofs.Parts.{part_whole}
+use Rattle.tb_top.proofs.Common.{◌≡◌, ◌≢◌, ◌∙◌, ℕ, ◌<◌, ◌≤◌, ◌⊎◌, true, List, [], length, Option, Some, None, IfSome, Ok, inl, inr, refl, sym, ap, subst, arith, append-nil, Takes, TakesPart, Rose, View, Experiment, Fits, IsFirstOverload, placed, Overload, up_to_tick, IsComplete, Inputs, run_rules, Suffices, IsShort, Loaded, IsRead, IsTooLong, IsContent, disk_limit, OpenFault, IsUnopened, Ends, no_memory, no_experiment, ended, Refuses, IsAsked, TaskEnds, Asks, IsRight, MayRun, IsTold, IsToldOf, IsPartPut, FilesServed, OutServed, Completes, IsPlanned, is_made, Origin, File, Load, Task, Run, Plan, origin_of, task_of, AreFor, IsFrom, Says, experiment_limit, Plans, open_status, World, Quiet, Status, Done, Usage, Refused, Build, TooLong, ReadFault, WriteFault, Memory}
 use Rattle.dev_face.specs.declared.kind.Kind.{Kind}
 use Rattle.host_journal.specs.Entries.{Entry}
 use Rattle.run_views.specs.Traced.{IsTraced}
@@ -196,10 +195,14 @@ headline {w} laws ends unfailed = record {
   unfailed = unfailed;
 }
 
+-- the whole of a text is a first part of it
+pub whole_part : (old new : Option (List ℕ)) (text : List ℕ) → Takes old new text → TakesPart old new text
+whole_part old new text takes = (text, record { rest = []; whole = sym (append-nil text) }, takes)
+
 -- What is said of a status whose line is made is said of want of memory too.
 task_memory : {w : World} (o : Origin) (t : Task) (e : Experiment) (s : Status) → is_made s ≡ true → IsAsked w.words w.files.held o t e → TaskEnds w o t e s → Ends w Memory
 task_memory o (Run n view) e (Over slot need have) made k (over, quiet) = no_memory quiet
-task_memory {w} o Plan e (Over slot need have) made k (over, (l, least, takes)) = ended o Plan e k (l, least, part_whole w.out.taken w.out_after.taken _ takes)
+task_memory {w} o Plan e (Over slot need have) made k (over, (l, least, takes)) = ended o Plan e k (l, least, whole_part w.out.taken w.out_after.taken _ takes)
 task_memory o t e Done made k h = absurd (cc made)
 task_memory o t e WriteFault made k h = absurd (cc made)
 task_memory o t e Memory made k h = absurd (cc made)

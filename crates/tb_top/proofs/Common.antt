@@ -1,6 +1,7 @@
 -- The names that most proofs cite, passed on from one place. Declares nothing.
-pub use Rattle.std.proofs.Common.{◌≡◌, ℕ, List, Option, Result, Ok, Err, inl, inr, refl, sym, subst, ◌≢◌, ◌∙◌, ◌<◌, ◌≤◌, ◌⊎◌, true, [], length, Some, None, IfSome, ap, arith, ◌++◌, map, take}
+pub use Rattle.std.proofs.Common.{◌≡◌, ℕ, List, Option, Result, Ok, Err, inl, inr, refl, sym, subst, ◌≢◌, ◌∙◌, ◌<◌, ◌≤◌, ◌⊎◌, true, [], length, Some, None, IfSome, ap, arith, ◌++◌, append-nil, map, take}
 pub use Rattle.tb_io.specs.Causes.{WriteCause, Rose}
+pub use Rattle.tb_io.specs.Puts.{Takes, TakesPart}
 pub use Rattle.trace_rec.specs.declared.view.View.{View}
 pub use Rattle.exp_file.specs.Lists.{without_room}
 pub use Rattle.exp_file.specs.declared.experiment.Experiment.{Experiment}

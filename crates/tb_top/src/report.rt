@@ -51,7 +51,7 @@ pub(crate) fn tell<M: Sink>(alloc: Global, status: Status, msg: &mut M) -> Statu
 }
 
 /// Puts a line, whatever comes of it.
-#[tactic(auto, using(tb_io::proofs::Parts::part_whole))]
+#[tactic(auto, using(crate::proofs::Claims::whole_part))]
 fn say<M: Sink>(msg: &mut M, line: &[u8])
     ensures { SaysLine line.now (M.taken msg.old) (M.taken msg.new) (M.faults msg.old) (M.faults msg.new) }
 {
