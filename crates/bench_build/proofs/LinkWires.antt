@@ -49,27 +49,23 @@ comes_to g nic w = w.to == g && w.to_nic == nic
 count_cons : {A : Type 0} (p : A → Bool) (x : A) (xs : List A) → count_by p (x ∷ xs) ≡ cond {A = ℕ} (p x) 1 0 + count_by p xs
 count_cons p x xs = sum_by-cons (λ y. cond (p y) 1 0) x xs
 
--- a link has an end at a nic for each wire that begins there
-begin_count : (g nic : ℕ) (ls : List LinkSpec) → count_by (begins_at g nic) (flat_map wires_of ls) ≡ ends_at g nic ls
-begin_count g nic [] = refl
-begin_count g nic (l ∷ ls) =
+-- the wires of links that pass are those from first ends that do, and those from second ends
+wire_count : (p : Wire → Bool) (ls : List LinkSpec) → count_by p (flat_map wires_of ls) ≡ count_by (λ l. p (there l)) ls + count_by (λ l. p (back l)) ls
+wire_count p [] = refl
+wire_count p (l ∷ ls) =
     let wires : List Wire = flat_map wires_of ls in
-    let first = count_cons (begins_at g nic) (there l) (back l ∷ wires) in
-    let second = count_cons (begins_at g nic) (back l) wires in
-    let left = count_cons (λ (x : LinkSpec). x.a == g && x.a_nic == nic) l ls in
-    let right = count_cons (λ (x : LinkSpec). x.b == g && x.b_nic == nic) l ls in
-    omega (arith, first, second, left, right, begin_count g nic ls)
+    let first = count_cons p (there l) (back l ∷ wires) in
+    let second = count_cons p (back l) wires in
+    let left = count_cons (λ (x : LinkSpec). p (there x)) l ls in
+    let right = count_cons (λ (x : LinkSpec). p (back x)) l ls in
+    omega (arith, first, second, left, right, wire_count p ls)
 
--- and for each that ends there
+-- a link has an end at a nic for each wire that begins there, and for each that ends there
+begin_count : (g nic : ℕ) (ls : List LinkSpec) → count_by (begins_at g nic) (flat_map wires_of ls) ≡ ends_at g nic ls
+begin_count g nic ls = wire_count (begins_at g nic) ls
+
 end_count : (g nic : ℕ) (ls : List LinkSpec) → count_by (comes_to g nic) (flat_map wires_of ls) ≡ ends_at g nic ls
-end_count g nic [] = refl
-end_count g nic (l ∷ ls) =
-    let wires : List Wire = flat_map wires_of ls in
-    let first = count_cons (comes_to g nic) (there l) (back l ∷ wires) in
-    let second = count_cons (comes_to g nic) (back l) wires in
-    let left = count_cons (λ (x : LinkSpec). x.a == g && x.a_nic == nic) l ls in
-    let right = count_cons (λ (x : LinkSpec). x.b == g && x.b_nic == nic) l ls in
-    omega (arith, first, second, left, right, end_count g nic ls)
+end_count g nic ls = let count = wire_count (comes_to g nic) ls in omega (arith, count)
 
 -- two items that pass are counted twice
 counted : (t : Bool) → t ≡ true → cond {A = ℕ} t 1 0 ≡ 1

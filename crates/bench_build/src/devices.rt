@@ -1,5 +1,5 @@
 //! Devices taken of a stock.
-ghost use Rattle.std.specs.Prelude.{◌≡◌, ℕ, ◌+◌, ◌≤◌, ◌++◌, All, map, length, IfOk, OnOk};
+ghost use Rattle.std.specs.Prelude.{◌≡◌, ◌+◌, ◌≤◌, ◌++◌, All, map, length, IfOk, OnOk};
 ghost use Rattle.dev_face.specs.States.{IsBlankFor, IsInLimits, opening};
 ghost use Rattle.dev_face.specs.declared.kind.Kind.{Kind};
 ghost use Rattle.bench_build.specs.Stocks.{IsStock, counts, items_of};

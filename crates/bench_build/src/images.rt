@@ -1,6 +1,5 @@
 //! Images put into RAM.
-ghost use Rattle.std.specs.Prelude.{◌≡◌, ◌≤◌, ℕ, length, replicate};
-ghost use Rattle.guest_ram.specs.Bytes.{ram_after};
+ghost use Rattle.std.specs.Prelude.{◌≡◌, ℕ, length, replicate};
 ghost use Rattle.bench_build.specs.Answers.{LoadedAnswers, PutAnswers};
 ghost use Rattle.bench_build.specs.Images.{flat_image, elf_image, image};
 ghost use Rattle.exp_file.specs.WellFormed.{IsGuest};

@@ -11,22 +11,17 @@ use Rattle.exp_file.specs.WellFormed.{IsWellFormed}
 use Rattle.exp_file.specs.declared.experiment.Experiment.{Experiment}
 use Rattle.exp_file.specs.declared.guest_spec.GuestSpec.{GuestSpec}
 use Rattle.gen_load.specs.Loads.{ring}
-use Rattle.bench_build.specs.Stocks.{needs, Suffices, IsStock, counts}
+use Rattle.bench_build.specs.Stocks.{needs, Suffices, IsShort, IsStock, counts}
 use Rattle.bench_build.specs.declared.build_fault.BuildFault.TheVariants as build
-use Rattle.tb_top.specs.Ends.{Ends}
-use Rattle.tb_top.specs.World.{World}
-use Rattle.tb_top.specs.declared.status.Status.{Status}
-use Rattle.tb_top.specs.declared.status.Status.TheVariants.{Build}
-use Rattle.tb_top.proofs.Claims.{AreInRange, IsGiven, short_of}
+use Rattle.tb_top.specs.Origins.{IsGiven}
 use Rattle.diecast.specs.Boxes.{boxes}
 
--- an experiment that a file says has 32 guests, 64 disks and 128 nics at most, a load of 2 to 32 guests is well formed, and no command asks for another
+-- an experiment that a file says has 32 guests, 64 disks and 128 nics at most, and a load of 2 to 32 guests is well formed
 pub record AreFew : Type 0 where
   pub guests : (b : List ℕ) (e : Experiment) → reading b ≡ Ok e → length e.guests.items ≤ 32
   pub disks : (b : List ℕ) (e : Experiment) → reading b ≡ Ok e → length e.disks.items ≤ 64
   pub nics : (b : List ℕ) (e : Experiment) → reading b ≡ Ok e → sum (map (λ g. g.nics) e.guests.items) ≤ 128
   pub loads : (n : ℕ) → 2 ≤ n → n ≤ 32 → IsWellFormed (ring n)
-  pub ranges : AreInRange
 
 enough : AreFew → (b : List ℕ) (e : Experiment) → reading b ≡ Ok e → (k : Kind) → needs e k ≤ boxes k
 enough few b e read kind.Clint = few.guests b e read
@@ -67,8 +62,6 @@ counted clints uarts blks nets p q r t kind.Net = t
 pub boxes_counted : {A : Type 0} (clints uarts blks nets : List A) → length clints ≡ 32 → length uarts ≡ 32 → length blks ≡ 64 → length nets ≡ 128 → counts (clints ∷ uarts ∷ blks ∷ nets ∷ []) ≡ boxes
 boxes_counted clints uarts blks nets p q r t = fun_ext (counted clints uarts blks nets p q r t)
 
--- no command ends for want of a device
-pub supplied : AreFew → (w : World) {s : Status} (k : Kind) (wanted had : ℕ) → Ends (record w { stock = boxes }) s → s ≡ Build (build.NoDevice k wanted had) → ⊥
-supplied few w k wanted had ends same =
-    let (e, is, short) = short_of k wanted had few.ranges (subst (λ z. Ends (record w { stock = boxes }) z) same ends) in
-    omega (arith, (boxes_suffice few e is).of k, short.wanted, short.had_is, short.short)
+-- no device is wanting for an experiment that is given
+pub supplied : AreFew → (k : Kind) (wanted had : ℕ) → (e : Experiment) × IsGiven e × IsShort e boxes (build.NoDevice k wanted had) → ⊥
+supplied few k wanted had (e, is, short) = omega (arith, (boxes_suffice few e is).of k, short.wanted, short.had_is, short.short)

@@ -20,9 +20,8 @@ use std::alloc::Global;
 use tb_base::NoMemory;
 use tb_base::limits::{DISKS, GUESTS};
 use tb_io::{Files, Sink};
-use tb_top::{Status, Stock, diecast};
+use tb_top::{Status, Stock, diecast, experiments_are_given};
 use uart_dev::Uart;
-use words_line::commands_are_in_range;
 
 /// Most nics of an experiment: four of each guest.
 const NICS: usize = 128;
@@ -101,6 +100,6 @@ pub(crate) fn run_with<F: Files, O: Sink, M: Sink>(
     disks_are_few();
     nics_are_few();
     loads_are_right();
-    commands_are_in_range();
+    experiments_are_given();
     Ok(diecast(alloc, words, files, out, msg, stock))
 }

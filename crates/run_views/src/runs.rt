@@ -1,5 +1,5 @@
 //! The run of a bench, in a view of it.
-ghost use Rattle.std.specs.Prelude.{◌≡◌, ◌≤◌, ◌⊎◌, ℕ, List, map, length, false, IfOk, take};
+ghost use Rattle.std.specs.Prelude.{◌≡◌, ◌≤◌, ◌⊎◌, ℕ, List, map, length, false, IfOk};
 ghost use Rattle.exp_file.specs.declared.experiment.Experiment.{Experiment};
 ghost use Rattle.exp_file.specs.WellFormed.{IsWellFormed};
 ghost use Rattle.trace_rec.specs.declared.view.View.{View};

@@ -1,6 +1,5 @@
 -- What follows from how a command ends.
-use Rattle.tb_top.proofs.Common.{◌≡◌, ◌≢◌, ◌∙◌, ℕ, ◌<◌, ◌≤◌, ◌⊎◌, true, List, [], length, Option, Some, None, IfSome, Ok, inl, inr, refl, sym, ap, subst, arith, Rose, View, Experiment, Fits, IsFirstOverload, placed, Overload, up_to_tick, IsComplete, Inputs, run_rules, Suffices, IsShort, Loaded, IsRead, IsTooLong, IsContent, disk_limit, OpenFault, IsUnopened, Ends, no_memory, no_experiment, ended, Refuses, IsAsked, TaskEnds, Asks, IsRight, MayRun, IsTold, IsToldOf, IsPartPut, FilesServed, OutServed, Completes, IsPlanned, is_made, Origin, File, Load, Task, Run, Plan, origin_of, task_of, AreFor, IsFrom, Says, experiment_limit, Plans, open_status, World, Quiet, Status, Done, Usage, Refused, Build, TooLong, ReadFault, WriteFault, Memory}
-use Rattle.tb_io.proofs.Parts.{part_whole}
+use Rattle.tb_top.proofs.Common.{◌≡◌, ◌≢◌, ◌∙◌, ℕ, ◌<◌, ◌≤◌, ◌⊎◌, true, List, [], length, Option, Some, None, IfSome, Ok, inl, inr, refl, sym, ap, subst, arith, append-nil, Takes, TakesPart, Rose, View, Experiment, Fits, IsFirstOverload, placed, Overload, up_to_tick, IsComplete, Inputs, run_rules, Suffices, IsShort, Loaded, IsRead, IsTooLong, IsContent, disk_limit, OpenFault, IsUnopened, Ends, no_memory, no_experiment, ended, Refuses, IsAsked, TaskEnds, Asks, IsRight, MayRun, IsTold, IsToldOf, IsPartPut, FilesServed, OutServed, Completes, IsPlanned, is_made, Origin, File, Load, Task, Run, Plan, origin_of, task_of, AreFor, IsFrom, Says, IsGiven, experiment_limit, Plans, open_status, World, Quiet, Status, Done, Usage, Refused, Build, TooLong, ReadFault, WriteFault, Memory}
 use Rattle.dev_face.specs.declared.kind.Kind.{Kind}
 use Rattle.host_journal.specs.Entries.{Entry}
 use Rattle.run_views.specs.Traced.{IsTraced}
@@ -196,10 +195,14 @@ headline {w} laws ends unfailed = record {
   unfailed = unfailed;
 }
 
+-- the whole of a text is a first part of it
+pub whole_part : (old new : Option (List ℕ)) (text : List ℕ) → Takes old new text → TakesPart old new text
+whole_part old new text takes = (text, record { rest = []; whole = sym (append-nil text) }, takes)
+
 -- What is said of a status whose line is made is said of want of memory too.
 task_memory : {w : World} (o : Origin) (t : Task) (e : Experiment) (s : Status) → is_made s ≡ true → IsAsked w.words w.files.held o t e → TaskEnds w o t e s → Ends w Memory
 task_memory o (Run n view) e (Over slot need have) made k (over, quiet) = no_memory quiet
-task_memory {w} o Plan e (Over slot need have) made k (over, (l, least, takes)) = ended o Plan e k (l, least, part_whole w.out.taken w.out_after.taken _ takes)
+task_memory {w} o Plan e (Over slot need have) made k (over, (l, least, takes)) = ended o Plan e k (l, least, whole_part w.out.taken w.out_after.taken _ takes)
 task_memory o t e Done made k h = absurd (cc made)
 task_memory o t e WriteFault made k h = absurd (cc made)
 task_memory o t e Memory made k h = absurd (cc made)
@@ -223,23 +226,14 @@ pub unfailed_told : {r s : Status} {A : Type 0} → (r ≢ WriteFault → A) →
 unfailed_told unfailed (inl same) other = unfailed (λ fault. other (same ∙ fault))
 unfailed_told unfailed (inr (memory, made)) other = unfailed (λ fault. cc (subst (λ (z : Status). is_made z ≡ true) fault made))
 
--- an experiment that a file says, or a load of 2 to 32 guests
-abbrev pub IsGiven : Experiment → Type 0
-IsGiven e = ((b : List ℕ) × Says b e) ⊎ ((n : ℕ) × (2 ≤ n) × (n ≤ 32) × (e ≡ ring n))
-
-load_given : AreInRange → (words : List (List ℕ)) (n : ℕ) (t : Task) (e : Experiment) → AreFor words (Load n) t → e ≡ ring n → IsGiven e
-load_given ranges words n t e c same = let (low, high) = few_guests ranges words n t c in inr (n, low, high, same)
-
-pub run_given : {words : List (List ℕ)} {held : List ℕ → Option (List ℕ)} {e : Experiment} → AreInRange → MayRun words held e → IsGiven e
-run_given {words} {held} {e} ranges may = by may.origin may.asks
-  where
-    by : (o : Origin) → Asks words held o (Run may.host_ticks may.view) e → IsGiven e
-    by (File name) k = inl (k.told.bytes, k.told.holds)
-    by (Load n) k = load_given ranges words n (Run may.host_ticks may.view) e k.command k.told
+-- so the experiment that is told is given
+pub told_given : AreInRange → (words : List (List ℕ)) (held : List ℕ → Option (List ℕ)) (o : Origin) (t : Task) (e : Experiment) → AreFor words o t → IsToldOf held o e → IsGiven e
+told_given ranges words held (File name) t e c told = inl (told.bytes, told.holds)
+told_given ranges words held (Load n) t e c same = let (low, high) = few_guests ranges words n t c in inr (n, low, high, same)
 
 -- where a device is wanting, it is so of an experiment that is given
-pub short_of : {w : World} (k : Kind) (wanted had : ℕ) → AreInRange → Ends w (Build (NoDevice k wanted had)) → (e : Experiment) × IsGiven e × IsShort e w.stock (NoDevice k wanted had)
-short_of k wanted had ranges (no_experiment quiet h) = absurd h
-short_of k wanted had ranges (ended o Plan e asked h) = absurd h
-short_of {w} k wanted had ranges (ended (File name) (Run n view) e asked h) = (e, inl (asked.from.bytes, asked.from.holds), h.2.holds)
-short_of {w} k wanted had ranges (ended (Load m) (Run n view) e asked h) = (e, load_given ranges w.words m (Run n view) e asked.command asked.from, h.2.holds)
+pub short_of : {w : World} → AreInRange → (k : Kind) (wanted had : ℕ) → Ends w (Build (NoDevice k wanted had)) → (e : Experiment) × IsGiven e × IsShort e w.stock (NoDevice k wanted had)
+short_of ranges k wanted had (no_experiment quiet h) = absurd h
+short_of ranges k wanted had (ended o Plan e asked h) = absurd h
+short_of ranges k wanted had (ended (File name) (Run n view) e asked h) = (e, inl (asked.from.bytes, asked.from.holds), h.2.holds)
+short_of {w} ranges k wanted had (ended (Load m) (Run n view) e asked h) = (e, told_given ranges w.words w.files.held (Load m) (Run n view) e asked.command asked.from, h.2.holds)

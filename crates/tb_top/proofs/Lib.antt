@@ -1,3 +1,3 @@
-pub mod Claims
+mod Claims
 mod Common
 mod Endings

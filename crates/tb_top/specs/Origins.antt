@@ -1,5 +1,5 @@
 -- What a command asks for: where its experiment comes from, and what is done with it.
-use Rattle.std.specs.Prelude.{◌≡◌, ℕ, List, Option, Ok}
+use Rattle.std.specs.Prelude.{◌≡◌, ℕ, ◌≤◌, ◌⊎◌, List, Option, Ok}
 use Rattle.trace_rec.specs.declared.view.View.{View}
 use Rattle.trace_rec.specs.declared.view.View.TheVariants.{Summary}
 use Rattle.exp_file.specs.Reading.{reading}
@@ -56,3 +56,7 @@ IsFrom held (Load n) e = e ≡ ring n
 abbrev pub AreInputs : (List ℕ → Option (List ℕ)) → Origin → Experiment → Inputs → Type 0
 AreInputs held (File name) e i = AreRead held e i
 AreInputs held (Load n) e i = i ≡ images_alone (ring_images n)
+
+-- a file says the experiment, or it is a load of 2 to 32 guests
+abbrev pub IsGiven : Experiment → Type 0
+IsGiven e = ((b : List ℕ) × Says b e) ⊎ ((n : ℕ) × (2 ≤ n) × (n ≤ 32) × (e ≡ ring n))

@@ -3,6 +3,7 @@
 
 mod experiment_file;
 mod fault_words;
+mod law;
 mod placing;
 mod report;
 mod status;
@@ -10,6 +11,7 @@ mod tasks;
 mod top;
 
 pub use bench_build::Stock;
+pub use law::experiments_are_given;
 pub use open_images::FileId;
 pub use run_views::traces_do_not_depend_on_slots;
 pub use status::Status;

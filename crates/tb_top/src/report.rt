@@ -1,5 +1,5 @@
 //! The line of a status.
-ghost use Rattle.std.specs.Prelude.{◌≡◌, ◌++◌, ◌⊎◌, ℕ, map, take, IfOk, OnOk, true};
+ghost use Rattle.std.specs.Prelude.{◌≡◌, ◌++◌, ◌⊎◌, IfOk, OnOk, true};
 ghost use Rattle.tb_top.specs.Lines.{file_words, fault_words, build_words, image_words, size_words, header_words, shown_key, shown_byte};
 ghost use Rattle.tb_top.specs.Lines.{status_line, is_made, SaysLine, Told};
 
@@ -51,7 +51,7 @@ pub(crate) fn tell<M: Sink>(alloc: Global, status: Status, msg: &mut M) -> Statu
 }
 
 /// Puts a line, whatever comes of it.
-#[tactic(auto, using(tb_io::proofs::Parts::part_whole))]
+#[tactic(auto, using(crate::proofs::Claims::whole_part))]
 fn say<M: Sink>(msg: &mut M, line: &[u8])
     ensures { SaysLine line.now (M.taken msg.old) (M.taken msg.new) (M.faults msg.old) (M.faults msg.new) }
 {

@@ -2,7 +2,7 @@
 ghost use Rattle.std.specs.Prelude.{◌≡◌, ◌≢◌, ℕ, ◌≤◌, List};
 ghost use Rattle.dev_face.specs.declared.kind.Kind.{Kind};
 ghost use Rattle.bench_build.specs.Stocks.{IsStock, counts, items_of};
-ghost use Rattle.open_images.specs.Reads.{FilesSeen, files_seen};
+ghost use Rattle.open_images.specs.Reads.{FilesSeen};
 ghost use Rattle.trace_rec.specs.declared.view.View.TheVariants.{Summary};
 ghost use Rattle.tb_top.specs.Ends.{Ends};
 ghost use Rattle.tb_top.specs.Origins.{File, Load, Run, Plan, AreFor};

@@ -3,7 +3,6 @@ use Rattle.std.proofs.Common.{◌≡◌, ℕ, [], ◌∷◌, arith, subst}
 use Rattle.bench_build.specs.Stocks.{counts}
 use Rattle.dev_face.specs.contracts.boxed.BoxDynDeviceDevice.TheImpl.{state-value}
 use Rattle.dev_face.specs.declared.kind.Kind.{Kind}
-use Rattle.tb_top.proofs.Claims.{run_given}
 use Rattle.tb_top.specs.Ends.{Ends, Completes}
 use Rattle.tb_top.specs.Headline.{Headline}
 use Rattle.tb_top.specs.World.{World, texts, world}
@@ -25,8 +24,8 @@ returns g c =
       disks = c.disks_are_few.ensures.few;
       nics = c.nics_are_few.ensures.few;
       loads = c.loads_are_right.ensures.well_formed;
-      ranges = c.commands_are_in_range.ensures.ranges;
     } in
+    let given = c.experiments_are_given.ensures in
     let s = c.diecast.result in
     let w : World = world (texts c.args.words.now) g.F.Files c.args.files.now c.diecast.new.files g.O.Sink c.args.out.now c.diecast.new.out boxes in
     let same : counts (c.loop.clints.items ∷ c.loop.uarts.items ∷ c.loop-2.blks.items ∷ c.loop-3.nets.items ∷ []) ≡ boxes =
@@ -36,8 +35,8 @@ returns g c =
     record {
       ends = ends;
       headline = subst (λ (n : Kind → ℕ). Headline (record w { stock = n }) s) same c.diecast.ensures.headline;
-      complete = λ e may files out. complete e may (boxes_suffice few e (run_given few.ranges may)) files out;
+      complete = λ e may files out. complete e may (boxes_suffice few e (given.runs w.words w.files.held e may)) files out;
       planned = c.diecast.ensures.planned;
       told = c.diecast.ensures.told;
-      supplied = λ kind wanted had. supplied few w kind wanted had ends;
+      supplied = λ kind wanted had no_device. supplied few kind wanted had (given.short w kind wanted had (subst (Ends w) no_device ends));
     }
