@@ -1,10 +1,11 @@
-use Rattle.std.proofs.Common.{◌≡◌, ◌++◌, ℕ, List, take, drop, length, ◌∙◌, sym, ap}
+use Rattle.std.proofs.Common.{◌≡◌, ◌++◌, ℕ, List, take, drop, length, ◌∙◌, sym, ap, subst}
 use Rattle.std.proofs.Math.Seq.{take-append_seam}
 use Rattle.std.proofs.Props.{props}
 use Rattle.std.proofs.Math.Logic.{∥∥₁_elim}
 use Rattle.lookahead_core.specs.Events.{Progress}
 use Rattle.lookahead_core.specs.Links.{wires_in}
 use Rattle.lookahead_core.specs.Stands.{StandsForSome}
+use Rattle.lookahead_core.specs.Ways.{AllWays}
 use Rattle.lookahead_core.proofs.Found.{still}
 use Rattle.lookahead_core.proofs.Seats.{read_same}
 use Rattle.lookahead_core.proofs.Tells.{goes_on}
@@ -23,6 +24,9 @@ returns-in_err-advanced-clause-wires g c = ap wires_in (written c.args.self.now.
 pub invariant_of-self-2 : goal.invariant_of-self-2
 invariant_of-self-2 g c = record {
   wired = rw ((written c.args.self.now.seats.len c.advance_at.new.seats (drop (length c.advance_at.new.seats) c.args.self.now.seats.items) (c.args.self.now.seats.ok.0 ∙ ap length (sym c.deref_mut.ensures.value) ∙ sym c.advance_at.auto.seats)), (written c.args.self.now.links.len c.advance_at.new.links (drop (length c.advance_at.new.links) c.args.self.now.links.items) (c.args.self.now.links.ok.0 ∙ ap length (sym c.deref_mut-2.ensures.value) ∙ sym c.advance_at.auto.links))) c.advance_at.ensures.wired;
+  listed = rw ((written c.args.self.now.seats.len c.advance_at.new.seats (drop (length c.advance_at.new.seats) c.args.self.now.seats.items) (c.args.self.now.seats.ok.0 ∙ ap length (sym c.deref_mut.ensures.value) ∙ sym c.advance_at.auto.seats)), (written c.args.self.now.links.len c.advance_at.new.links (drop (length c.advance_at.new.links) c.args.self.now.links.items) (c.args.self.now.links.ok.0 ∙ ap length (sym c.deref_mut-2.ensures.value) ∙ sym c.advance_at.auto.links)))
+      (subst (λ n. AllWays n c.args.self.now.ways.items (wires_in c.advance_at.new.links)) (ap length (sym c.deref_mut.ensures.value) ∙ sym c.advance_at.auto.seats)
+      (subst (AllWays (length c.args.self.now.seats.items) c.args.self.now.ways.items) (sym (c.advance_at.ensures.wires ∙ ap wires_in c.deref_mut-2.ensures.value)) c.args.self.now.listed));
   stands = λ _.
       let some : StandsForSome g.N.Node.motion g.N.Node.state g.N.Node.clock c.args.self.now.seats.items c.args.self.now.links.items = c.args.self.now.stands c.requires.going in
       rw ((written c.args.self.now.seats.len c.advance_at.new.seats (drop (length c.advance_at.new.seats) c.args.self.now.seats.items) (c.args.self.now.seats.ok.0 ∙ ap length (sym c.deref_mut.ensures.value) ∙ sym c.advance_at.auto.seats)), (written c.args.self.now.links.len c.advance_at.new.links (drop (length c.advance_at.new.links) c.args.self.now.links.items) (c.args.self.now.links.ok.0 ∙ ap length (sym c.deref_mut-2.ensures.value) ∙ sym c.advance_at.auto.links)))

@@ -1,6 +1,9 @@
-use Rattle.std.proofs.Common.{◌≡◌, refl, ◌∙◌, ap, slice_get, false}
+use Rattle.std.proofs.Common.{◌≡◌, refl, sym, ◌∙◌, ap, subst, map, length, slice_get, false}
+use Rattle.std.proofs.Math.ListN.{length-map}
 use Rattle.lookahead_core.specs.Links.{wires_in}
+use Rattle.lookahead_core.specs.Opening.{fresh}
 use Rattle.lookahead_core.specs.Seats.{begun_at}
+use Rattle.lookahead_core.specs.Ways.{AllWays}
 use Rattle.lookahead_core.proofs.Booleans.{true_false}
 use Rattle.lookahead_core.proofs.Opens.{opens, opens_some, opens_wired, zero_of, idle_of, wires_opened, rate_of_fresh}
 use Rattle.lookahead_core.proofs.Tells.{stands_for}
@@ -13,6 +16,8 @@ pub invariant_of-result : goal.invariant_of-result
 invariant_of-result g c = record {
   wired = rw (c.in_ok-seats.ensures, c.in_ok-links.ensures)
       (opens_wired g.N.Node.motion g.N.Node.state g.N.Node.clock c.args.nodes.items c.args.wires.now c.requires.idle c.requires.wires c.requires.once_from (rw c.deref.ensures.value at c.have_rates.ensures));
+  listed = rw c.in_ok-seats.ensures (subst (AllWays (length (map fresh c.args.nodes.items)) c.in_ok-ways.ways.items) (sym (ap wires_in c.in_ok-links.ensures ∙ wires_opened c.args.wires.now))
+      (subst (λ n. AllWays n c.in_ok-ways.ways.items c.args.wires.now) (sym (length-map c.args.nodes.items fresh)) (subst (λ n. AllWays n c.in_ok-ways.ways.items c.args.wires.now) (c.len.ensures ∙ c.args.nodes.ok.0) c.in_ok-ways.ensures)));
   stands = λ _. rw (c.in_ok-seats.ensures, c.in_ok-links.ensures)
       (opens_some g.N.Node.motion g.N.Node.state g.N.Node.clock c.args.nodes.items c.args.wires.now c.requires.idle c.requires.wires c.requires.once_from (rw c.deref.ensures.value at c.have_rates.ensures) c.requires.count.0);
 }
