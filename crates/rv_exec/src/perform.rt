@@ -52,6 +52,8 @@ fn bit(holds: bool) -> u32
 }
 
 impl Hart {
+    // inlined, so that the width and the extension of each instruction are known where it is compiled
+    #[inline(always)]
     fn load<B: Bus>(
         &mut self,
         bus: &mut B,
