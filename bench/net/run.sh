@@ -225,8 +225,8 @@ PROOF
 build_both net
 ours=$work/crates/bench_net/out/bench_net
 printf '#!/bin/sh\nexec %s 1514\n' "$ours" > "$work/long_ours"
-printf '#!/bin/sh\nexec %s 1514\n' "$work/net_c" > "$work/long_c" 4
-chmod +x "$work/long_ours" "$work/long_c" 4
+printf '#!/bin/sh\nexec %s 1514\n' "$work/net_c" > "$work/long_c"
+chmod +x "$work/long_ours" "$work/long_c"
 
 compare "net_dev, 64 bytes" "$ours" "$work/net_c" 4
 compare "net_dev, 1514 bytes" "$work/long_ours" "$work/long_c" 4
